@@ -1,0 +1,1 @@
+// The algebra of policies: its definitions are in specs/, its laws in proofs/.
