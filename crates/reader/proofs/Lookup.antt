@@ -1,0 +1,81 @@
+-- Laws of looking up a name: what is found is below the list's length, and stays found as the list grows.
+use mathlib.Core.Path.{_≡_, refl, sym, ap, _∙_}
+use mathlib.Core.Bool.{Bool, true, false, _&&_}
+use mathlib.Core.List.{List, [], _∷_, _++_}
+use mathlib.Core.Option.{Option, none, some}
+use Prim.Native.Nat.{ℕ, zero, suc, _+_, _≤_, _<_}
+use native.Mathlib.Omega.{arith}
+use lib.ListN.{length}
+use borrow.Author.Tests.{eq-eqb, eqb-true}
+use lib.Dec.{eqb}
+use Rattle.algebra.proofs.Bool.{and-left, and-right}
+use Rattle.reader.specs.Text.{same}
+use Rattle.reader.specs.Declared.{positionFrom, position, found, place}
+
+pub same-refl : (t : List ℕ) → same t t ≡ true
+unfolding same
+same-refl [] = refl
+same-refl (b ∷ bs) = rw (eq-eqb b b refl) (same-refl bs)
+
+pub same-eq : (t u : List ℕ) → same t u ≡ true → t ≡ u
+unfolding same
+same-eq [] [] e = refl
+same-eq [] (c ∷ cs) e = absurd (let z : _≡_ {A = ℕ} 0 1 = cc in omega arith)
+same-eq (b ∷ bs) [] e = absurd (let z : _≡_ {A = ℕ} 0 1 = cc in omega arith)
+same-eq (b ∷ bs) (c ∷ cs) e =
+    let p = eqb-true b c (and-left (eqb b c) (same bs cs) e) in
+    let q = same-eq bs cs (and-right (eqb b c) (same bs cs) e) in
+    cc
+
+module _ {A : Type 0} (p : A → Bool) where
+  from-lt : (i : ℕ) (l : List A) (j : ℕ) → positionFrom i p l ≡ some j → (i ≤ j) × (j < i + length l)
+  unfolding positionFrom
+  from-lt i [] j e = absurd (let z : _≡_ {A = ℕ} 0 1 = cc in omega arith)
+  from-lt i (x ∷ xs) j e = go (p x) e
+    where
+      go : (b : Bool) → _≡_ {A = Option ℕ} (elim b [ true ↦ some i | false ↦ positionFrom (suc i) p xs ]) (some j) → (i ≤ j) × (j < i + length (x ∷ xs))
+      go true q = let h : i ≡ j = cc in (omega arith, omega arith)
+      go false q = let r = from-lt (suc i) xs j q in (omega arith, omega arith)
+
+  pub position-lt : (l : List A) (j : ℕ) → position p l ≡ some j → j < length l
+  unfolding position
+  position-lt l j e = let r = from-lt 0 l j e in omega arith
+
+  from-append : (i : ℕ) (l m : List A) (j : ℕ) → positionFrom i p l ≡ some j → positionFrom i p (l ++ m) ≡ some j
+  unfolding positionFrom
+  from-append i [] m j e = absurd (let z : _≡_ {A = ℕ} 0 1 = cc in omega arith)
+  from-append i (x ∷ xs) m j e = go (p x) e
+    where
+      go : (b : Bool) → _≡_ {A = Option ℕ} (elim b [ true ↦ some i | false ↦ positionFrom (suc i) p xs ]) (some j)
+          → _≡_ {A = Option ℕ} (elim b [ true ↦ some i | false ↦ positionFrom (suc i) p (xs ++ m) ]) (some j)
+      go true q = q
+      go false q = from-append (suc i) xs m j q
+
+  pub position-append : (l m : List A) (j : ℕ) → position p l ≡ some j → position p (l ++ m) ≡ some j
+  unfolding position
+  position-append l m j e = from-append 0 l m j e
+
+  from-last : (i : ℕ) (l : List A) (x : A) → positionFrom i p l ≡ none → p x ≡ true → positionFrom i p (l ++ (x ∷ [])) ≡ some (i + length l)
+  unfolding positionFrom
+  from-last i [] x e h = rw h (ap some (omega arith))
+  from-last i (y ∷ ys) x e h = go (p y) e
+    where
+      go : (b : Bool) → _≡_ {A = Option ℕ} (elim b [ true ↦ some i | false ↦ positionFrom (suc i) p ys ]) none
+          → _≡_ {A = Option ℕ} (elim b [ true ↦ some i | false ↦ positionFrom (suc i) p (ys ++ (x ∷ [])) ]) (some (i + length (y ∷ ys)))
+      go true q = absurd (let z : _≡_ {A = ℕ} 0 1 = cc in omega arith)
+      go false q = from-last (suc i) ys x q h ∙ ap some (omega arith)
+
+  pub position-last : (l : List A) (x : A) → position p l ≡ none → p x ≡ true → position p (l ++ (x ∷ [])) ≡ some (length l)
+  unfolding position
+  position-last l x e h = from-last 0 l x e h ∙ ap some (omega arith)
+
+-- a test on what is found
+pub found-some : {A : Type 0} (o : Option A) → found o ≡ true → (x : A) × (o ≡ some x)
+unfolding found
+found-some none e = absurd (let z : _≡_ {A = ℕ} 0 1 = cc in omega arith)
+found-some (some x) e = (x, refl)
+
+pub found-none : {A : Type 0} (o : Option A) → found o ≡ false → o ≡ none
+unfolding found
+found-none none e = refl
+found-none (some x) e = absurd (let z : _≡_ {A = ℕ} 0 1 = cc in omega arith)

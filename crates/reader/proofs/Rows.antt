@@ -1,0 +1,88 @@
+-- What an accepted line and an accepted file have met, or not met.
+use mathlib.Core.Path.{_≡_, refl, sym, ap, _∙_}
+use mathlib.Core.Bool.{Bool, true, false}
+use mathlib.Core.List.{List, [], _∷_}
+use mathlib.Core.Option.{Option, none, some}
+use Prim.Native.Nat.{ℕ, suc}
+use native.Mathlib.Omega.{arith}
+use Rattle.reader.specs.Text.{lines}
+use Rattle.reader.specs.Line.{Line, parse}
+use Rattle.reader.specs.Declared.{Declared, start}
+use Rattle.reader.specs.Rows.{Row, row, if, Verdict, good, refuse, first, rows, outOfOrder, badCounts, tooMany, declaredAlready, notDeclared, grantsAway, twoSorts, expressionRows}
+use Rattle.reader.specs.File.{Accepted, Outcome, refused, accepted, isFile, judge, after, add, readLines, readFile}
+
+-- a row that a good line did not meet, and the rows after it
+passes : (o : Option ℕ) (n : ℕ) (rs : List Row) → _≡_ {A = Verdict} (elim o [ none ↦ first rs | some p ↦ refuse n p ]) good → (o ≡ none) × (first rs ≡ good)
+passes none n rs e = (refl, e)
+passes (some p) n rs e = absurd (let z : _≡_ {A = ℕ} 0 1 = cc in omega arith)
+
+pub first-good : (r : Row) (rs : List Row) → first (r ∷ rs) ≡ good → (r .met ≡ none) × (first rs ≡ good)
+unfolding first
+first-good r rs e = passes (r .met) (r .number) rs e
+
+not-met : (b : Bool) → if b ≡ none → b ≡ false
+unfolding if
+not-met true e = absurd (let z : _≡_ {A = ℕ} 0 1 = cc in omega arith)
+not-met false e = refl
+
+-- the rows 4, 8, 7, 5, 6, 10 and 11 of a good line
+pub record Good (d : Declared) (l : Line) : Type 0 where
+  pub row-4 : outOfOrder d l ≡ false
+  pub row-8 : badCounts d l ≡ false
+  pub row-7 : tooMany d l ≡ false
+  pub row-5 : declaredAlready d l ≡ false
+  pub row-6 : notDeclared d l ≡ false
+  pub row-10 : grantsAway d l ≡ false
+  pub row-11 : twoSorts d l ≡ false
+  pub others : first (expressionRows d l) ≡ good
+
+pub good-rows : (d : Declared) (l : Line) → first (rows d l) ≡ good → Good d l
+unfolding rows row
+good-rows d l e =
+    let p4 = first-good _ _ e in
+    let p8 = first-good _ _ (p4 .1) in
+    let p7 = first-good _ _ (p8 .1) in
+    let p5 = first-good _ _ (p7 .1) in
+    let p6 = first-good _ _ (p5 .1) in
+    let p10 = first-good _ _ (p6 .1) in
+    let p11 = first-good _ _ (p10 .1) in
+    record {
+      row-4 = not-met _ (p4 .0);
+      row-8 = not-met _ (p8 .0);
+      row-7 = not-met _ (p7 .0);
+      row-5 = not-met _ (p5 .0);
+      row-6 = not-met _ (p6 .0);
+      row-10 = not-met _ (p10 .0);
+      row-11 = not-met _ (p11 .0);
+      others = p11 .1;
+    }
+
+-- ---- the lines of an accepted file
+
+-- a good line, and the lines after it
+pub record GoodLine (n : ℕ) (d : Declared) (l : List ℕ) (ls : List (List ℕ)) (a : Accepted) : Type 0 where
+  pub line : Line
+  pub parsed : parse l ≡ some line
+  pub is-good : Good d line
+  pub rest : readLines (suc n) (add d line) ls ≡ accepted a
+
+judged : (v : Verdict) (n : ℕ) (o : Outcome) (a : Accepted) → _≡_ {A = Outcome} (elim v [ good ↦ o | refuse k p ↦ refused k n p ]) (accepted a) → (v ≡ good) × (o ≡ accepted a)
+judged good n o a e = (refl, e)
+judged (refuse k p) n o a e = absurd (let z : _≡_ {A = ℕ} 0 1 = cc in omega arith)
+
+pub good-line : (n : ℕ) (d : Declared) (l : List ℕ) (ls : List (List ℕ)) (a : Accepted) → readLines n d (l ∷ ls) ≡ accepted a → GoodLine n d l ls a
+unfolding readLines judge after
+good-line n d l ls a e = go (parse l) refl (judged (judge d (parse l)) n (readLines (suc n) (after d (parse l)) ls) a e)
+  where
+    go : (o : Option Line) → parse l ≡ o → (judge d o ≡ good) × (readLines (suc n) (after d o) ls ≡ accepted a) → GoodLine n d l ls a
+    go none q r = absurd (let h = r .0 in let z : _≡_ {A = ℕ} 0 1 = cc in omega arith)
+    go (some x) q r = record { line = x; parsed = q; is-good = good-rows d x (r .0); rest = r .1 }
+
+-- an accepted file is one whose lines are
+pub accepted-lines : (f : List ℕ) (a : Accepted) → readFile f ≡ accepted a → readLines 1 start (lines f) ≡ accepted a
+unfolding readFile
+accepted-lines f a e = go (isFile f) e
+  where
+    go : (b : Bool) → _≡_ {A = Outcome} (elim b [ true ↦ readLines 1 start (lines f) | false ↦ refused 2 0 0 ]) (accepted a) → readLines 1 start (lines f) ≡ accepted a
+    go true p = p
+    go false p = absurd (let z : _≡_ {A = ℕ} 0 1 = cc in omega arith)
