@@ -31,11 +31,12 @@ module _ {A : Type 0} (p : A → Bool) where
   from-lt : (i : ℕ) (l : List A) (j : ℕ) → positionFrom i p l ≡ some j → (i ≤ j) × (j < i + length l)
   unfolding positionFrom
   from-lt i [] j e = absurd (let z : _≡_ {A = ℕ} 0 1 = cc in omega arith)
-  from-lt i (x ∷ xs) j e = go (p x) e
+  from-lt i (x ∷ xs) j e = go (from-lt (suc i) xs j) (p x) e
     where
-      go : (b : Bool) → _≡_ {A = Option ℕ} (elim b [ true ↦ some i | false ↦ positionFrom (suc i) p xs ]) (some j) → (i ≤ j) × (j < i + length (x ∷ xs))
-      go true q = let h : i ≡ j = cc in (omega arith, omega arith)
-      go false q = let r = from-lt (suc i) xs j q in (omega arith, omega arith)
+      go : (positionFrom (suc i) p xs ≡ some j → (suc i ≤ j) × (j < suc i + length xs)) → (b : Bool)
+          → _≡_ {A = Option ℕ} (elim b [ true ↦ some i | false ↦ positionFrom (suc i) p xs ]) (some j) → (i ≤ j) × (j < i + length (x ∷ xs))
+      go rest true q = let h : i ≡ j = cc in (omega arith, omega arith)
+      go rest false q = let r = rest q in (omega arith, omega arith)
 
   pub position-lt : (l : List A) (j : ℕ) → position p l ≡ some j → j < length l
   unfolding position
@@ -44,12 +45,12 @@ module _ {A : Type 0} (p : A → Bool) where
   from-append : (i : ℕ) (l m : List A) (j : ℕ) → positionFrom i p l ≡ some j → positionFrom i p (l ++ m) ≡ some j
   unfolding positionFrom
   from-append i [] m j e = absurd (let z : _≡_ {A = ℕ} 0 1 = cc in omega arith)
-  from-append i (x ∷ xs) m j e = go (p x) e
+  from-append i (x ∷ xs) m j e = go (from-append (suc i) xs m j) (p x) e
     where
-      go : (b : Bool) → _≡_ {A = Option ℕ} (elim b [ true ↦ some i | false ↦ positionFrom (suc i) p xs ]) (some j)
+      go : (positionFrom (suc i) p xs ≡ some j → positionFrom (suc i) p (xs ++ m) ≡ some j) → (b : Bool) → _≡_ {A = Option ℕ} (elim b [ true ↦ some i | false ↦ positionFrom (suc i) p xs ]) (some j)
           → _≡_ {A = Option ℕ} (elim b [ true ↦ some i | false ↦ positionFrom (suc i) p (xs ++ m) ]) (some j)
-      go true q = q
-      go false q = from-append (suc i) xs m j q
+      go rest true q = q
+      go rest false q = rest q
 
   pub position-append : (l m : List A) (j : ℕ) → position p l ≡ some j → position p (l ++ m) ≡ some j
   unfolding position
@@ -58,12 +59,12 @@ module _ {A : Type 0} (p : A → Bool) where
   from-last : (i : ℕ) (l : List A) (x : A) → positionFrom i p l ≡ none → p x ≡ true → positionFrom i p (l ++ (x ∷ [])) ≡ some (i + length l)
   unfolding positionFrom
   from-last i [] x e h = rw h (ap some (omega arith))
-  from-last i (y ∷ ys) x e h = go (p y) e
+  from-last i (y ∷ ys) x e h = go (λ q. from-last (suc i) ys x q h) (p y) e
     where
-      go : (b : Bool) → _≡_ {A = Option ℕ} (elim b [ true ↦ some i | false ↦ positionFrom (suc i) p ys ]) none
+      go : (positionFrom (suc i) p ys ≡ none → positionFrom (suc i) p (ys ++ (x ∷ [])) ≡ some (suc i + length ys)) → (b : Bool) → _≡_ {A = Option ℕ} (elim b [ true ↦ some i | false ↦ positionFrom (suc i) p ys ]) none
           → _≡_ {A = Option ℕ} (elim b [ true ↦ some i | false ↦ positionFrom (suc i) p (ys ++ (x ∷ [])) ]) (some (i + length (y ∷ ys)))
-      go true q = absurd (let z : _≡_ {A = ℕ} 0 1 = cc in omega arith)
-      go false q = from-last (suc i) ys x q h ∙ ap some (omega arith)
+      go rest true q = absurd (let z : _≡_ {A = ℕ} 0 1 = cc in omega arith)
+      go rest false q = rest q ∙ ap some (omega arith)
 
   pub position-last : (l : List A) (x : A) → position p l ≡ none → p x ≡ true → position p (l ++ (x ∷ [])) ≡ some (length l)
   unfolding position

@@ -1,5 +1,5 @@
 -- What an accepted line and an accepted file have met, or not met.
-use mathlib.Core.Path.{_≡_, refl, sym, ap, _∙_}
+use mathlib.Core.Path.{_≡_, refl, sym, ap, _∙_, subst}
 use mathlib.Core.Bool.{Bool, true, false}
 use mathlib.Core.List.{List, [], _∷_}
 use mathlib.Core.Option.{Option, none, some}
@@ -77,6 +77,14 @@ good-line n d l ls a e = go (parse l) refl (judged (judge d (parse l)) n (readLi
     go : (o : Option Line) → parse l ≡ o → (judge d o ≡ good) × (readLines (suc n) (after d o) ls ≡ accepted a) → GoodLine n d l ls a
     go none q r = absurd (let h = r .0 in let z : _≡_ {A = ℕ} 0 1 = cc in omega arith)
     go (some x) q r = record { line = x; parsed = q; is-good = good-rows d x (r .0); rest = r .1 }
+
+-- the same of a line that is known
+pub good-as : (n : ℕ) (d : Declared) (l : List ℕ) (ls : List (List ℕ)) (a : Accepted) (x : Line) → readLines n d (l ∷ ls) ≡ accepted a → parse l ≡ some x
+    → Good d x × (readLines (suc n) (add d x) ls ≡ accepted a)
+good-as n d l ls a x e p =
+    let g = good-line n d l ls a e in
+    let q : g .line ≡ x = cc (g .parsed, p) in
+    (subst (Good d) q (g .is-good), subst (λ (y : Line). readLines (suc n) (add d y) ls ≡ accepted a) q (g .rest))
 
 -- an accepted file is one whose lines are
 pub accepted-lines : (f : List ℕ) (a : Accepted) → readFile f ≡ accepted a → readLines 1 start (lines f) ≡ accepted a
