@@ -4,3 +4,7 @@ pub mod Lists
 pub mod Answer
 pub mod Rounds
 pub mod Derivation
+pub mod Order
+pub mod Algebra
+pub mod Run
+pub mod Program
