@@ -1,12 +1,12 @@
 -- Laws of the postfix program: on a stack of sets it leaves the tree's answers, and the most sets on the stack are the sets held.
 use mathlib.Core.Path.{_≡_, refl, sym, ap, _∙_}
 use mathlib.Core.List.{List, [], _∷_, _++_}
-use Prim.Native.Nat.{ℕ, zero, suc, _+_, _-_, _≤_, max}
+use Prim.Native.Nat.{ℕ, zero, suc, _+_, _*_, _-_, _≤_, max}
 use native.Mathlib.Omega.{arith}
-use lib.ListN.{length}
+use lib.ListN.{length, length-append}
 use Rattle.algebra.specs.Lists.{tab}
 use Rattle.algebra.specs.Answer.{Answer, _⊔_, _⊓_, _⊖_, keep}
-use Rattle.algebra.specs.Algebra.{Tree, table, plus, both, minus, override, scope, closure, held, Model}
+use Rattle.algebra.specs.Algebra.{Tree, table, plus, both, minus, override, scope, closure, held, operators, Model}
 use Rattle.algebra.specs.Program.{Step, table-step, plus-step, both-step, minus-step, override-step, scope-step, closure-step, steps, after, peak}
 use Rattle.algebra.proofs.Run.{Ran, valueAt, merge, replace, shut, run}
 
@@ -159,3 +159,14 @@ module _ {C : Type 0} where
   -- The most sets on the stack are the sets held.
   pub peak-steps : (t : Tree C) (h : ℕ) → peak h (steps t) ≡ held t + h
   peak-steps t h = counted t h .1
+
+  -- how long a program is
+  pub length-steps : (t : Tree C) → length (steps t) ≤ 3 * operators t + 1
+  unfolding steps operators
+  length-steps (table n) = omega arith
+  length-steps (plus l r) = let a = length-steps l in let b = length-steps r in simp length-append (omega arith)
+  length-steps (both l r) = let a = length-steps l in let b = length-steps r in simp length-append (omega arith)
+  length-steps (minus l r) = let a = length-steps l in let b = length-steps r in simp length-append (omega arith)
+  length-steps (override p q s) = let a = length-steps p in let b = length-steps q in let c = length-steps s in simp length-append (omega arith)
+  length-steps (scope c t) = let a = length-steps t in simp length-append (omega arith)
+  length-steps (closure R t) = let a = length-steps t in simp length-append (omega arith)

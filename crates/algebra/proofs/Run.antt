@@ -12,6 +12,7 @@ use Rattle.algebra.specs.Rounds.{Clause, has, iter, used}
 use Rattle.algebra.specs.Algebra.{Tree, table, plus, both, minus, override, scope, closure, Model, permits, grade, decided, close, answer, rounds}
 use Rattle.algebra.specs.Policy.{Policy, accesses, model, tableAnswer, policyAnswer, answers, policyRounds}
 use Rattle.algebra.proofs.Lists.{length-tab, getD-tab, getD-map-lt}
+use Rattle.algebra.proofs.Bytes.{length-answers, answers-at}
 use Rattle.algebra.proofs.Rounds.{length-iter}
 use Rattle.algebra.proofs.Algebra.{length-permits, permits-cong, decided-cong}
 
@@ -113,12 +114,11 @@ unfolding run
 composed P = run (model (P .frame)) (P .limit) (tableAnswer (P .tables)) (P .tree)
 
 pub composed-answers : (P : Policy) → composed P .values ≡ answers P
-unfolding composed policyAnswer answers
+unfolding composed policyAnswer
 composed-answers P =
     let r = run-right (model (P .frame)) (P .limit) (tableAnswer (P .tables)) (P .tree) in
-    let l : length (answers P) ≡ accesses (P .frame) = length-tab _ _ in
-    ext-getD deny (composed P .values) (answers P) (r .right-length ∙ sym l)
-    (λ x h. let w = r .right-length in let h′ : x < accesses (P .frame) = omega arith in r .right-values x h′ ∙ sym (getD-tab _ _ x deny h′))
+    ext-getD deny (composed P .values) (answers P) (r .right-length ∙ sym (length-answers P))
+    (λ x h. let w = r .right-length in let h′ : x < accesses (P .frame) = omega arith in r .right-values x h′ ∙ sym (answers-at P x h′))
 
 pub composed-rounds : (P : Policy) → composed P .used-rounds ≡ policyRounds P
 unfolding composed policyRounds
