@@ -43,6 +43,11 @@ undecided≢permit e = let h = ap byte e in omega arith
 undecided≢deny : undecided ≡ deny → ⊥
 undecided≢deny e = let h = ap byte e in omega arith
 
+pub isPermit-eq : (a : Answer) → isPermit a ≡ true → a ≡ permit
+isPermit-eq deny e = absurd (false≢true e)
+isPermit-eq undecided e = absurd (false≢true e)
+isPermit-eq permit e = refl
+
 -- ---- what an answer says of a statement: permit, that it holds; deny, that it does not; undecided, nothing
 
 pub data Says (H : Type 0) : Answer → Type 0 where
@@ -75,6 +80,12 @@ says-not (true-of q) = false-of (λ n. n q)
 
 pub says-minus : {A B : Type 0} {a b : Answer} → Says A a → Says B b → Says (A × ¬ B) (a ⊖ b)
 says-minus p q = says-and p (says-not q)
+
+pub says-keep : {H : Type 0} {a : Answer} (i : Bool) → Says H a → Says ((i ≡ true) × H) (keep i a)
+says-keep true (false-of n) = false-of (λ h. n (h .1))
+says-keep true nothing-of = nothing-of
+says-keep true (true-of h) = true-of (refl, h)
+says-keep false s = false-of (λ h. false≢true (h .0))
 
 -- the three readings
 pub says-permit : {H : Type 0} {a : Answer} → Says H a → a ≡ permit → H

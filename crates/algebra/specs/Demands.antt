@@ -7,6 +7,7 @@ use Prim.Native.Nat.{ℕ, suc, _*_, _≤_, _<_}
 use lib.ListN.{length}
 use Rattle.algebra.specs.Answer.{deny, undecided, permit}
 use Rattle.algebra.specs.Rounds.{has, Sub, iter, used, Least, Der}
+use Rattle.algebra.specs.Derivation.{Derivation, height}
 use Rattle.algebra.specs.Algebra.{Uses, closures}
 use Rattle.algebra.specs.Policy.{Frame, Table, Policy, accesses, Instance, clauses, tableAt, isGranted, policyAnswer, policyRounds, policySet}
 
@@ -53,6 +54,8 @@ pub record ClosureRounds (fr : Frame) (R : ℕ) (F : List Bool) : Type 0 where
   pub at-rest : iter (accesses fr) (clauses fr R) (suc (accesses fr)) F ≡ iter (accesses fr) (clauses fr R) (accesses fr) F
   -- "The closure with no limit is also defined by finite derivations, without rounds, and the two are shown equal"
   pub derivations : (x : ℕ) → Der (Instance fr R) (λ y. has F y ≡ true) x ↔ ((k : ℕ) × (has (iter (accesses fr) (clauses fr R) k F) x ≡ true))
+  -- and F(k) is what has a derivation of height at most k
+  pub by-height : (k x : ℕ) → (has (iter (accesses fr) (clauses fr R) k F) x ≡ true) ↔ ((d : Derivation (Instance fr R) (λ y. has F y ≡ true) x) × (height d ≤ k))
 
 -- The rounds of a policy: at most the limit, and at most the number of accesses, for each closure.
 pub record FewRounds (P : Policy) : Type 0 where
