@@ -41,6 +41,10 @@ sortWord (b ∷ []) = sortByte b
 sortWord (b ∷ c ∷ bs) = none
 
 -- ---- names
+abbrev pub noSort : Option Sort → Bool
+noSort none = true
+noSort (some s) = false
+
 unfoldable pub isName : List ℕ → Bool
 unfolding isLetter isNameByte areNameBytes sortByte sortWord
-isName n = isLetter (getD n 0 0) && areNameBytes n && leb (length n) most-bytes && elim (sortWord n) [ none ↦ true | some s ↦ false ]
+isName n = isLetter (getD n 0 0) && areNameBytes n && leb (length n) most-bytes && noSort (sortWord n)
