@@ -11,8 +11,11 @@ use lib.ListN.{length, getD, drop, drop-of-length-le}
 use lib.Seq.{drop-cons, getD-drop}
 use borrow.Author.Tests.{lt-ltb, le-ltb}
 use Rattle.grammar.specs.Name.{most-bytes, isNameByte, sortWord}
-use Rattle.grammar.specs.Expression.{Fac, plain, closed-by, table-name}
-use Rattle.grammar.specs.Machine.{Left, start, Frame, at-table, at-ruleset, State, need, naming, have, opened, grows, named, step, stuck, named-end, finish, run}
+use Rattle.grammar.specs.Expression.{Exp, Fac, plain, closed-by, table-name}
+use Rattle.grammar.specs.Machine.{Left, start, Frame, at-table, at-ruleset, State, need, naming, have, opened, grows, named, step, whole, stuck, named-end, finish, run}
+
+pub stuck-whole : {r : List ℕ} {e : Exp} → stuck r ≡ whole e → ⊥
+stuck-whole p = let z : _≡_ {A = ℕ} 0 1 = cc in omega arith
 
 -- ---- a byte
 module _ (b : ℕ) (bs : List ℕ) (s : State) where
