@@ -1,0 +1,5 @@
+pub mod Name
+pub mod Machine
+pub mod Complete
+pub mod Sound
+pub mod Longest
