@@ -1,3 +1,4 @@
 pub mod Rows
 pub mod Lookup
 pub mod Later
+pub mod Members

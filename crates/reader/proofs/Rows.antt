@@ -3,13 +3,17 @@ use mathlib.Core.Path.{_≡_, refl, sym, ap, _∙_, subst}
 use mathlib.Core.Bool.{Bool, true, false}
 use mathlib.Core.List.{List, [], _∷_}
 use mathlib.Core.Option.{Option, none, some}
-use Prim.Native.Nat.{ℕ, suc}
+use Prim.Native.Nat.{ℕ, suc, _≤_}
 use native.Mathlib.Omega.{arith}
+use lib.Dec.{leb}
+use borrow.Author.Tests.{leb-true}
+use Rattle.algebra.specs.Lists.{all}
+use Rattle.algebra.proofs.Bool.{and-left, and-right}
 use Rattle.reader.specs.Text.{lines}
-use Rattle.reader.specs.Line.{Line, parse}
-use Rattle.reader.specs.Declared.{Declared, start}
+use Rattle.reader.specs.Line.{Line, memberLine, predicateLine, tableLine, grantLine, ruleLine, bodyLine, expressionLine, parse}
+use Rattle.reader.specs.Declared.{Declared, Goal, start}
 use Rattle.reader.specs.Rows.{Row, row, if, Verdict, good, refuse, first, rows, outOfOrder, badCounts, tooMany, declaredAlready, notDeclared, grantsAway, twoSorts, expressionRows}
-use Rattle.reader.specs.File.{Accepted, Outcome, refused, accepted, isFile, judge, after, add, readLines, readFile}
+use Rattle.reader.specs.File.{Accepted, Outcome, refused, accepted, isFile, ended, judge, after, add, readLines, readFile}
 
 -- a row that a good line did not meet, and the rows after it
 passes : (o : Option ℕ) (n : ℕ) (rs : List Row) → _≡_ {A = Verdict} (elim o [ none ↦ first rs | some p ↦ refuse n p ]) good → (o ≡ none) × (first rs ≡ good)
@@ -94,3 +98,55 @@ accepted-lines f a e = go (isFile f) e
     go : (b : Bool) → _≡_ {A = Outcome} (elim b [ true ↦ readLines 1 start (lines f) | false ↦ refused 2 0 0 ]) (accepted a) → readLines 1 start (lines f) ≡ accepted a
     go true p = p
     go false p = absurd (let z : _≡_ {A = ℕ} 0 1 = cc in omega arith)
+
+-- ---- the numbers of refusals: none is 0 or 1
+
+first-number : (rs : List Row) (k p : ℕ) → all (λ (r : Row). leb 2 (r .number)) rs ≡ true → first rs ≡ refuse k p → 2 ≤ k
+unfolding first
+first-number [] k p h e = absurd (let z : _≡_ {A = ℕ} 0 1 = cc in omega arith)
+first-number (r ∷ rs) k p h e =
+    go (first-number rs k p (and-right (leb 2 (r .number)) (all (λ (r : Row). leb 2 (r .number)) rs) h)) (r .met)
+    (leb-true 2 (r .number) (and-left _ (all (λ (r : Row). leb 2 (r .number)) rs) h)) e
+  where
+    go : (first rs ≡ refuse k p → 2 ≤ k) → (o : Option ℕ) → 2 ≤ r .number
+        → _≡_ {A = Verdict} (elim o [ none ↦ first rs | some q ↦ refuse (r .number) q ]) (refuse k p) → 2 ≤ k
+    go rest none n q = rest q
+    go rest (some x) n q = let y : r .number ≡ k = cc in omega arith
+
+numbered : (d : Declared) (l : Line) → all (λ (r : Row). leb 2 (r .number)) (rows d l) ≡ true
+unfolding rows row expressionRows
+numbered d (memberLine σ n p) = refl
+numbered d (predicateLine σ p m) = refl
+numbered d (tableLine t h) = refl
+numbered d (grantLine t s o a) = refl
+numbered d (ruleLine r s o a) = refl
+numbered d (bodyLine b) = refl
+numbered d (expressionLine n t) = refl
+
+judge-number : (d : Declared) (o : Option Line) (k p : ℕ) → judge d o ≡ refuse k p → 2 ≤ k
+unfolding judge
+judge-number d none k p e = let y : 3 ≡ k = cc in omega arith
+judge-number d (some l) k p e = first-number (rows d l) k p (numbered d l) e
+
+ended-number : (d : Declared) (g : Option Goal) (k l p : ℕ) → ended d g ≡ refused k l p → 2 ≤ k
+unfolding ended
+ended-number d none k l p e = let y : 9 ≡ k = cc in omega arith
+ended-number d (some g) k l p e = absurd (let z : _≡_ {A = ℕ} 0 1 = cc in omega arith)
+
+lines-number : (n : ℕ) (d : Declared) (ls : List (List ℕ)) (k l p : ℕ) → readLines n d ls ≡ refused k l p → 2 ≤ k
+unfolding readLines
+lines-number n d [] k l p e = ended-number d (d .goal) k l p e
+lines-number n d (x ∷ ls) k l p e = go (lines-number (suc n) (after d (parse x)) ls k l p) (judge d (parse x)) refl e
+  where
+    go : (readLines (suc n) (after d (parse x)) ls ≡ refused k l p → 2 ≤ k) → (v : Verdict) → judge d (parse x) ≡ v
+        → _≡_ {A = Outcome} (elim v [ good ↦ readLines (suc n) (after d (parse x)) ls | refuse j q ↦ refused j n q ]) (refused k l p) → 2 ≤ k
+    go rest good h q = rest q
+    go rest (refuse j r) h q = let y : j ≡ k = cc in subst (λ (i : ℕ). 2 ≤ i) y (judge-number d (parse x) j r h)
+
+pub refused-number : (f : List ℕ) (k l p : ℕ) → readFile f ≡ refused k l p → 2 ≤ k
+unfolding readFile
+refused-number f k l p e = go (isFile f) e
+  where
+    go : (b : Bool) → _≡_ {A = Outcome} (elim b [ true ↦ readLines 1 start (lines f) | false ↦ refused 2 0 0 ]) (refused k l p) → 2 ≤ k
+    go true q = lines-number 1 start (lines f) k l p q
+    go false q = let y : 2 ≡ k = cc in omega arith
