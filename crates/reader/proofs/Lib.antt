@@ -2,3 +2,4 @@ pub mod Rows
 pub mod Lookup
 pub mod Later
 pub mod Members
+pub mod Computed
