@@ -3,3 +3,5 @@ pub mod Machine
 pub mod Complete
 pub mod Sound
 pub mod Longest
+pub mod Names
+pub mod Leftmost

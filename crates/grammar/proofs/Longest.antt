@@ -178,4 +178,3 @@ longest w rest a p =
       viable = (z .0, z .1 .0, f .1, f .0 ∙ ap (λ (x : List ℕ). x ++ z .0) (sym t));
       most = λ q h y. let g : (length (r .u) < q → ⊥) = no-longer w rest a r q h y in omega arith;
     }
-
