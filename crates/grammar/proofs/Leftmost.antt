@@ -3,7 +3,7 @@ use mathlib.Core.Path.{_≡_, refl, sym, ap, subst, _∙_}
 use mathlib.Core.Bool.{Bool, true, false, true≢false}
 use mathlib.Core.List.{List, [], _∷_, _++_, append-assoc, append-nil, List·Memᴰ, List·Memᴰ·head, List·Memᴰ·tail, List·Memᴰ·not-nil, List·Memᴰ·cases-cons}
 use mathlib.Core.Logic.{_⊎_, inl, inr, ⊎-elim}
-use mathlib.Core.Option.{Option, none, some, Option·none-ne-some, Option·some-ne-none, Option·some-injective}
+use mathlib.Core.Option.{none, some, Option·none-ne-some, Option·some-ne-none, Option·some-injective}
 use Prim.Native.Nat.{ℕ, _+_, _≤_}
 use native.Mathlib.Omega.{arith}
 use lib.ListN.{length, take, drop, length-append}
@@ -11,7 +11,8 @@ use lib.Seq.{drop-at, take-append-seam}
 use Rattle.grammar.specs.Name.{letterOf}
 use Rattle.grammar.specs.Expression.{Scope, compare, marked, Exp, one, more, Fac, plain, scoped, closed-by, Pri, table-name, bracket, override, byteJ, textO, textS, textE, textF, textP}
 use Rattle.grammar.specs.Names.{Kind, Named, namesE, firstMissing, missing}
-use Rattle.grammar.specs.Occurs.{OccursS, compares, marks, OccursE, in-one, in-left, in-right, OccursF, in-primary, before-scope, in-scope, before-closure, closes, OccursP, names-table, in-bracket, in-first, in-second, in-third, Leftmost, AllDeclared}
+use Rattle.grammar.specs.Occurs.{OccursS, compares, marks, OccursE, in-one, in-left, in-right, OccursF, in-primary, before-scope, in-scope, before-closure, closes, OccursP, names-table, in-bracket, in-first, in-second, in-third, AllDeclared}
+use Rattle.grammar.specs.Statements.{MissingIsLeftmost, NoneMissing}
 use Rattle.grammar.proofs.Names.{entry, listedE, occursE, Ascends, ascendE}
 
 -- ---- a name stands in the text where it occurs in the tree
@@ -128,9 +129,9 @@ module _ (declared : Kind → List ℕ → Bool) where
       go false d f = absurd (Option·some-ne-none (x .place) (sym (fails x xs d) ∙ e))
 
 -- ---- row 13
-pub leftmost : (declared : Kind → List ℕ → Bool) (e : Exp) (p : ℕ) → missing declared e ≡ some p → Leftmost declared e p
+pub missing-is-leftmost : MissingIsLeftmost
 unfolding missing
-leftmost declared e p q =
+missing-is-leftmost declared e p q =
     let r = first-some declared (namesE e 0) 0 _ p (ascendE e 0) q in
     let o = occursE e 0 (r .one) (r .listed) in
     let z : o .0 ≡ p = omega arith in
@@ -144,6 +145,6 @@ leftmost declared e p q =
       first = λ k n i x d. r .least (entry k n i) (listedE e 0 i (omega arith) x) d;
     }
 
-pub all-declared : (declared : Kind → List ℕ → Bool) (e : Exp) → missing declared e ≡ none → AllDeclared declared e
+pub none-missing : NoneMissing
 unfolding missing AllDeclared
-all-declared declared e q k n p x = first-none declared (namesE e 0) q (entry k n p) (listedE e 0 p (omega arith) x)
+none-missing declared e q k n p x = first-none declared (namesE e 0) q (entry k n p) (listedE e 0 p (omega arith) x)
