@@ -2,13 +2,13 @@
 use mathlib.Core.Path.{_≡_, refl}
 use mathlib.Core.Bool.{Bool, true, false, _&&_, _||_}
 use mathlib.Core.List.{List, [], _∷_, map}
-use mathlib.Core.Option.{Option, none, some}
+use mathlib.Core.Option.{none, some}
 use Prim.Native.Nat.{ℕ}
 use Prim.Native.String.{String}
 use lib.Dec.{eqb}
-use Rattle.algebra.specs.Sort.{Sort, subject, object, action}
+use Rattle.algebra.specs.Sort.{subject, object, action}
 use Rattle.grammar.specs.Text.{bytes}
-use Rattle.grammar.specs.Machine.{Reading, read, wrong, reading}
+use Rattle.grammar.specs.Machine.{read, wrong, reading}
 use Rattle.grammar.specs.Names.{Kind, table, rule-set, member, predicate, missing}
 
 same : List ℕ → List ℕ → Bool

@@ -1,6 +1,6 @@
 -- How the machine goes: a byte, a position of the text, the end of a word, a bracket. Assumes nothing.
 use mathlib.Core.Path.{_≡_, refl, ap, subst, _∙_}
-use mathlib.Core.Bool.{Bool, true, false, _&&_, false≢true, and-false}
+use mathlib.Core.Bool.{Bool, true, false, false≢true, and-false}
 use mathlib.Core.List.{List, [], _∷_}
 use mathlib.Core.Option.{none, some}
 use Prim.Native.Nat.{ℕ, zero, suc, _≤_, _<_, _+_, _-_, zero-le, suc-le-suc}

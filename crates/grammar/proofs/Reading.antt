@@ -1,11 +1,11 @@
 -- What the reading of a text means: trees and texts are one to one, signs bind to the left, and a wrong place is that of row 12. Assumes nothing.
 use mathlib.Core.Path.{_≡_, refl, sym, ap, subst, _∙_}
-use mathlib.Core.List.{List, [], _∷_, _++_, append-assoc}
+use mathlib.Core.List.{List, [], _∷_, append-assoc}
 use Prim.Native.Nat.{ℕ, _-_}
 use native.Mathlib.Omega.{arith}
 use lib.ListN.{length}
 use Rattle.grammar.specs.Expression.{Exp, one, more, byteJ, textE, textF, most-open, WellFormed}
-use Rattle.grammar.specs.Machine.{start, need, Out, whole, stuck, run, Reading, read, wrong, told, reading}
+use Rattle.grammar.specs.Machine.{start, need, Out, whole, stuck, run, read, wrong, told, reading}
 use Rattle.grammar.specs.Longest.{Longest}
 use Rattle.grammar.specs.Statements.{TreesAreRead, ReadingsAreTrees, OneTree, BindsLeft, WrongIsLongest}
 use Rattle.grammar.proofs.Complete.{tree-read}

@@ -4,15 +4,14 @@ use mathlib.Core.Bool.{Bool, true, false, cond, and-eq-true-iff}
 use mathlib.Core.List.{List, [], _∷_, _++_, append-assoc, append-nil}
 use mathlib.Core.Option.{Option, none, some}
 use Prim.Native.Nat.{ℕ, zero, suc}
-use native.Mathlib.Omega.{arith}
 use lib.Dec.{eqb, ltb}
 use lib.ListN.{length}
 use borrow.Author.Tests.{eqb-true, ltb-true}
 use Rattle.algebra.specs.Sort.{Sort, subject, object, action}
 use Rattle.grammar.specs.Name.{most-bytes, isLetter, isNameByte, letterOf, sortByte, sortWord, isName}
-use Rattle.grammar.specs.Expression.{Exp, one, more, Fac, plain, scoped, closed-by, Pri, table-name, bracket, override, compare, marked, byteJ, textO, textS, textE, textF, OkS, OkE, OkF}
-use Rattle.grammar.specs.Machine.{Left, start, after, join, Frame, open-bracket, open-first, open-second, open-third, Slot, at-table, at-ruleset, at-member, at-scope, Half, less, greater, State, need, begin, naming, have, caret, half, marking, sorted, ending, opened, closed, parted, delimited, joined, onward, grows, compared, named, strict, loose, answered, step, Out, whole, stuck, last, named-end, finish, run}
-use Rattle.grammar.proofs.Name.{Word, NameParts, parts-name, word-one, word-more, letter-of-sort, word-of-sort}
+use Rattle.grammar.specs.Expression.{Exp, Fac, plain, closed-by, table-name, byteJ, textO, textS, textE, textF, OkS, OkE, OkF}
+use Rattle.grammar.specs.Machine.{Left, start, after, join, Frame, open-bracket, open-first, open-second, open-third, Slot, at-table, at-ruleset, at-member, at-scope, Half, less, greater, State, need, begin, naming, have, caret, half, marking, sorted, ending, opened, closed, parted, delimited, joined, onward, grows, compared, named, strict, loose, answered, step, whole, last, named-end, finish, run}
+use Rattle.grammar.proofs.Name.{Word, parts-name, word-one, word-more, letter-of-sort, word-of-sort}
 use Rattle.grammar.proofs.Machine.{next, halt, stuck-whole}
 
 -- ---- what has been read in a state

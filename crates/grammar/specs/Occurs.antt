@@ -1,7 +1,7 @@
 -- Where names stand in an expression, by the shape of its tree, and which is the leftmost that is not declared.
 use mathlib.Core.Path.{_≡_}
 use mathlib.Core.Bool.{Bool, true, false}
-use mathlib.Core.List.{List, [], _∷_, _++_}
+use mathlib.Core.List.{List}
 use Prim.Native.Nat.{ℕ, _+_, _≤_}
 use lib.ListN.{length, take, drop}
 use Rattle.algebra.specs.Sort.{Sort}
