@@ -8,6 +8,7 @@ use Prim.Native.String.{String}
 use lib.Dec.{eqb}
 use Rattle.algebra.specs.Sort.{subject, object, action}
 use Rattle.grammar.specs.Text.{bytes}
+use Rattle.grammar.specs.Expression.{one, more, plus-sign, and-sign, Fac, plain, table-name}
 use Rattle.grammar.specs.Machine.{read, wrong, reading}
 use Rattle.grammar.specs.Names.{Kind, table, rule-set, member, predicate, missing}
 
@@ -66,3 +67,11 @@ examples =
 as-claimed : map (λ x. verdict (x .0)) examples ≡ map (λ x. x .1) examples
 unfolding verdict examples declared same
 as-claimed = refl
+
+-- a text with two signs, and its tree
+name : String → Fac
+name t = plain (table-name (bytes t))
+
+left-first : reading (bytes "forms+forms&forms") ≡ read (more (more (one (name "forms")) plus-sign (name "forms")) and-sign (name "forms"))
+unfolding reading name
+left-first = refl

@@ -63,15 +63,15 @@ close-all (open-third k e e′ ∷ ks) a l f = close-all ks (suc a) k _
 tail : List Frame → Slot → List ℕ
 tail ks (at-table l) = closers ks
 tail ks (at-ruleset l f) = closers ks
-tail ks (at-member l f k c) = 93 ∷ closers ks
+tail ks (at-member l f s o) = 93 ∷ closers ks
 tail ks (at-scope l f) = 40 ∷ 115 ∷ 41 ∷ 93 ∷ closers ks
 
 end-tail : (a : ℕ) (ks : List Frame) (k : Slot) (n : List ℕ) → sortWord n ≡ none → Ends (tail ks k) (naming a ks k n)
 unfolding tail step named answered sortByte run isNameByte isLetter
 end-tail a ks (at-table l) n w = back (settle-table a ks l n w (closers ks) (no-byte n _ (stops ks))) (close-all ks a l _)
 end-tail a ks (at-ruleset l f) n w = back (settle-ruleset a ks l n w f (closers ks) (no-byte n _ (stops ks))) (close-all ks a l _)
-end-tail a ks (at-member l f k c) n w =
-    back (next 93 (closers ks) (naming a ks (at-member l f k c) n) (have a ks l (scoped f (compare k c n))) (rw (no-byte n 93 refl, w))) (close-all ks a l _)
+end-tail a ks (at-member l f s o) n w =
+    back (next 93 (closers ks) (naming a ks (at-member l f s o) n) (have a ks l (scoped f (compare s o n))) (rw (no-byte n 93 refl, w))) (close-all ks a l _)
 end-tail a ks (at-scope l f) n w =
     back (next 40 (115 ∷ 41 ∷ 93 ∷ closers ks) (naming a ks (at-scope l f) n) (marking a ks l f n) (rw (no-byte n 40 refl, w))) (close-all ks a l _)
 
@@ -88,10 +88,10 @@ to-end (begin a ks k) = let x = end-name a ks k (98 ∷ []) in (98 ∷ x .0, x .
 to-end (naming a ks k n) = end-name a ks k n
 to-end (have a ks l f) = (closers ks, close-all ks a l f)
 to-end (caret a ks l f) = let x = end-name a ks (at-scope l f) (98 ∷ []) in (91 ∷ 98 ∷ x .0, x .1)
-to-end (half a ks l f k h) = let x = end-name a ks (at-member l f k (strict h)) (98 ∷ []) in (98 ∷ x .0, x .1)
+to-end (half a ks l f s h) = let x = end-name a ks (at-member l f s (strict h)) (98 ∷ []) in (98 ∷ x .0, x .1)
 to-end (marking a ks l f n) = (115 ∷ 41 ∷ 93 ∷ closers ks, close-all ks a l _)
-to-end (sorted a ks l f n k) = (41 ∷ 93 ∷ closers ks, close-all ks a l _)
-to-end (ending a ks l f s) = (93 ∷ closers ks, close-all ks a l _)
+to-end (sorted a ks l f n s) = (41 ∷ 93 ∷ closers ks, close-all ks a l _)
+to-end (ending a ks l f c) = (93 ∷ closers ks, close-all ks a l _)
 
 -- ---- where the machine is stuck
 -- u was read, to the state `there`, and at `there` no step leads on by the byte that is next, if there is one
@@ -110,10 +110,10 @@ last-stuck (k ∷ ks) e rest p = cc
 named-stuck : (ks : List Frame) (k : Slot) (n : List ℕ) (o : Option Sort) (rest : List ℕ) → named-end ks k n o ≡ stuck rest → [] ≡ rest
 unfolding named-end
 named-stuck ks (at-table l) n none rest p = last-stuck ks _ rest p
-named-stuck ks (at-table l) n (some k) rest p = cc
+named-stuck ks (at-table l) n (some s) rest p = cc
 named-stuck ks (at-ruleset l f) n none rest p = last-stuck ks _ rest p
-named-stuck ks (at-ruleset l f) n (some k) rest p = cc
-named-stuck ks (at-member l f j c) n o rest p = cc
+named-stuck ks (at-ruleset l f) n (some s) rest p = cc
+named-stuck ks (at-member l f s i) n o rest p = cc
 named-stuck ks (at-scope l f) n o rest p = cc
 
 finish-stuck : (s : State) (rest : List ℕ) → finish s ≡ stuck rest → [] ≡ rest
@@ -123,10 +123,10 @@ finish-stuck (begin a ks k) rest p = cc
 finish-stuck (naming a ks k n) rest p = named-stuck ks k n (sortWord n) rest p
 finish-stuck (have a ks l f) rest p = last-stuck ks _ rest p
 finish-stuck (caret a ks l f) rest p = cc
-finish-stuck (half a ks l f k j) rest p = cc
+finish-stuck (half a ks l f s j) rest p = cc
 finish-stuck (marking a ks l f n) rest p = cc
-finish-stuck (sorted a ks l f n k) rest p = cc
-finish-stuck (ending a ks l f j) rest p = cc
+finish-stuck (sorted a ks l f n s) rest p = cc
+finish-stuck (ending a ks l f c) rest p = cc
 
 stuck-read : (w rest : List ℕ) (s : State) → run w s ≡ stuck rest → Read w rest s
 unfolding run
