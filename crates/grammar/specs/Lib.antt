@@ -1,3 +1,4 @@
+pub mod Text
 pub mod Name
 pub mod Expression
 pub mod Machine
