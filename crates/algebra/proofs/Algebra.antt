@@ -1,14 +1,14 @@
 -- The laws of the algebra over any model: the answers are right of every set that the tables may stand for, none is undecided where nothing is missing,
 -- and none that is known changes.
 use mathlib.Core.Path.{_≡_, refl, sym, ap, ap₂, _∙_}
-use mathlib.Core.Logic.{_⊎_, inl, inr, _↔_}
-use mathlib.Core.Bool.{Bool, true, false, _&&_, false≢true, true≢false}
+use mathlib.Core.Logic.{inl, inr, _↔_}
+use mathlib.Core.Bool.{Bool, true, false, false≢true, true≢false}
 use mathlib.Core.List.{List, List·Memᴰ}
 use Prim.Native.Nat.{ℕ, _+_, _*_, _≤_, _<_, zero, zero-le}
 use native.Mathlib.Omega.{arith}
 use lib.ListN.{length}
 use Rattle.algebra.specs.Lists.{every}
-use Rattle.algebra.specs.Answer.{Answer, permit, isPermit, known, keep}
+use Rattle.algebra.specs.Answer.{Answer, permit, isPermit, known}
 use Rattle.algebra.specs.Rounds.{Clause, has, Sub, step, iter, used, settled, Der}
 use Rattle.algebra.specs.Algebra.{Tree, table, plus, both, minus, override, scope, closure, Uses, closures, Model, permits, grade, decided, close, answer, rounds, Holds}
 use Rattle.algebra.proofs.Bool.{and-left, and-right, and-both}

@@ -4,7 +4,7 @@ use mathlib.Core.Logic.{_⊎_, inl, inr}
 use mathlib.Core.Bool.{Bool, true, false, false≢true}
 use Prim.Native.Nat.{_-_, min, max}
 use native.Mathlib.Omega.{arith}
-use Rattle.algebra.specs.Answer.{Answer, deny, undecided, permit, byte, _⊔_, _⊓_, flip, _⊖_, keep, sure, atLeast, isPermit, known}
+use Rattle.algebra.specs.Answer.{Answer, deny, undecided, permit, byte, _⊔_, _⊓_, flip, _⊖_, keep, isPermit, known}
 
 -- ---- document 01's words on the numbers
 pub byte-⊔ : (a b : Answer) → byte (a ⊔ b) ≡ max (byte a) (byte b)
@@ -128,11 +128,6 @@ known-keep false k = known-deny
 pub known-test : {a : Answer} → Known a → known a ≡ true
 known-test known-deny = refl
 known-test known-permit = refl
-
-pub test-known : (a : Answer) → known a ≡ true → Known a
-test-known deny e = known-deny
-test-known undecided e = absurd (false≢true e)
-test-known permit e = known-permit
 
 -- ---- an answer that a later one keeps: it was open, or it is the same
 

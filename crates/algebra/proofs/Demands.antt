@@ -1,14 +1,12 @@
 -- The demands, proved of every policy.
-use mathlib.Core.Path.{_≡_, refl, sym, ap, _∙_}
-use mathlib.Core.Logic.{_↔_}
+use mathlib.Core.Path.{_≡_, refl, _∙_}
 use mathlib.Core.Bool.{Bool, true, false, false≢true}
 use mathlib.Core.List.{List}
 use Prim.Native.Nat.{ℕ, suc, _<_}
 use native.Mathlib.Omega.{arith}
 use lib.ListN.{length}
 use Rattle.algebra.specs.Answer.{deny, undecided, permit, sure}
-use Rattle.algebra.specs.Algebra.{Uses}
-use Rattle.algebra.specs.Policy.{Frame, Table, Policy, accesses, Instance, clauses, model, tableAt, isGranted, tableAnswer, tableSet, policyAnswer, policyRounds, policySet}
+use Rattle.algebra.specs.Policy.{Frame, Table, Policy, accesses, clauses, model, tableAt, isGranted, tableAnswer, tableSet, policyAnswer, policyRounds, policySet}
 use Rattle.algebra.specs.Demands.{Sound, Whole, Complete, Supplied, Later, Stable, ClosureRounds, FewRounds, Demands}
 use Rattle.algebra.proofs.Answer.{Says, false-of, nothing-of, true-of, says-permit, says-deny, says-known, Known, known-deny, known-permit, known-test, Keeps, was-open, stays, keeps-known}
 use Rattle.algebra.proofs.Rounds.{iter-up, used-least, least-unique, used-le-N, at-rest, der-iff}

@@ -1,5 +1,5 @@
 -- Laws of access numbers: a subject, an object and an action have one number below N, and each such number is theirs alone.
-use mathlib.Core.Path.{_≡_, sym, ap, ap₂, _∙_}
+use mathlib.Core.Path.{_≡_, ap, _∙_}
 use Prim.Native.Nat.{ℕ, zero, suc, _+_, _*_, _/_, _%_, _<_}
 use native.Mathlib.Nat.{div-add-mod', div-lt-iff-lt-mul, mod-lt, mul-zero, not-suc-le-zero}
 use native.Mathlib.Omega.{arith}

@@ -1,5 +1,5 @@
 -- Laws of the postfix program: on a stack of sets it leaves the tree's answers, and the most sets on the stack are the sets held.
-use mathlib.Core.Path.{_≡_, refl, sym, ap, _∙_}
+use mathlib.Core.Path.{_≡_, refl, ap, _∙_}
 use mathlib.Core.List.{List, [], _∷_, _++_}
 use Prim.Native.Nat.{ℕ, zero, suc, _+_, _*_, _-_, _≤_, max}
 use native.Mathlib.Omega.{arith}
