@@ -1,7 +1,7 @@
 -- Laws of the three answers: on their bytes, on what an answer says of a statement, on known answers, and on answers that a later one keeps.
-use mathlib.Core.Path.{_≡_, refl, sym, ap}
+use mathlib.Core.Path.{_≡_, refl, sym, ap, ap₂, _∙_}
 use mathlib.Core.Logic.{_⊎_, inl, inr}
-use mathlib.Core.Bool.{Bool, true, false, false≢true}
+use mathlib.Core.Bool.{Bool, true, false, cond, false≢true}
 use Prim.Native.Nat.{_-_, min, max}
 use native.Mathlib.Omega.{arith}
 use Rattle.algebra.specs.Answer.{Answer, deny, undecided, permit, byte, _⊔_, _⊓_, flip, _⊖_, keep, isPermit, known}
@@ -33,6 +33,13 @@ pub byte-⊖ : (a b : Answer) → byte (a ⊖ b) ≡ min (byte a) (2 - byte b)
 byte-⊖ a deny = byte-⊓ a permit
 byte-⊖ a undecided = byte-⊓ a undecided
 byte-⊖ a permit = byte-⊓ a deny
+
+pub byte-override : (a b c : Answer) → byte ((a ⊖ c) ⊔ (b ⊓ c)) ≡ max (min (byte a) (2 - byte c)) (min (byte b) (byte c))
+byte-override a b c = byte-⊔ (a ⊖ c) (b ⊓ c) ∙ ap₂ max (byte-⊖ a c) (byte-⊓ b c)
+
+pub byte-keep : (a : Answer) (i : Bool) → byte (keep i a) ≡ cond i (byte a) 0
+byte-keep a true = refl
+byte-keep a false = refl
 
 deny≢permit : deny ≡ permit → ⊥
 deny≢permit e = let h = ap byte e in omega arith
