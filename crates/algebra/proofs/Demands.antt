@@ -9,7 +9,7 @@ use Rattle.algebra.specs.Answer.{deny, undecided, permit, sure}
 use Rattle.algebra.specs.Policy.{Frame, Table, Policy, accesses, clauses, model, tableAt, isGranted, tableAnswer, tableSet, policyAnswer, policyRounds, policySet}
 use Rattle.algebra.specs.Demands.{Sound, Whole, Complete, Supplied, Later, Stable, ClosureRounds, FewRounds, Demands}
 use Rattle.algebra.proofs.Answer.{Says, false-of, nothing-of, true-of, says-permit, says-deny, says-known, Known, known-deny, known-permit, known-test, Keeps, was-open, stays, keeps-known}
-use Rattle.algebra.proofs.Rounds.{iter-up, used-least, least-unique, used-le-N, at-rest, der-iff}
+use Rattle.algebra.proofs.Rounds.{next-iff, iter-up, used-least, least-unique, used-le-N, at-rest, der-iff}
 use Rattle.algebra.proofs.Derivation.{height-iff}
 use Rattle.algebra.proofs.Algebra.{sound, complete, stable, rounds-le}
 use Rattle.algebra.proofs.Instances.{exact}
@@ -83,6 +83,7 @@ policy-stable P = record {
 
 pub closure-rounds : (fr : Frame) (R : ℕ) (F : List Bool) → length F ≡ accesses fr → ClosureRounds fr R F
 closure-rounds fr R F l = record {
+  next = next-iff (accesses fr) (clauses fr R) (exact fr .listed R) (exact fr .head-in R) F l;
   grows = λ k. iter-up (accesses fr) (clauses fr R) k (suc k) F l (omega arith);
   least = λ m. used-least (accesses fr) (clauses fr R) m F;
   only-least = λ m u r. least-unique (accesses fr) (clauses fr R) m F u _ r (used-least (accesses fr) (clauses fr R) m F);

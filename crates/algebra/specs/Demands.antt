@@ -1,12 +1,12 @@
 -- What the buyer demands of a policy's answers and rounds, as statements.
 use mathlib.Core.Path.{_≡_}
-use mathlib.Core.Logic.{_↔_}
+use mathlib.Core.Logic.{_⊎_, _↔_}
 use mathlib.Core.Bool.{Bool, true}
 use mathlib.Core.List.{List}
 use Prim.Native.Nat.{ℕ, suc, _*_, _≤_, _<_}
 use lib.ListN.{length}
 use Rattle.algebra.specs.Answer.{deny, undecided, permit}
-use Rattle.algebra.specs.Rounds.{has, Sub, iter, used, Least, Der}
+use Rattle.algebra.specs.Rounds.{has, Sub, Fired, iter, used, Least, Der}
 use Rattle.algebra.specs.Derivation.{Derivation, height}
 use Rattle.algebra.specs.Algebra.{Uses, closures}
 use Rattle.algebra.specs.Policy.{Frame, Table, Policy, accesses, Instance, clauses, tableAt, isGranted, policyAnswer, policyRounds, policySet}
@@ -44,7 +44,9 @@ pub record Stable (P : Policy) : Type 0 where
 
 -- A closure under the rule set R from the set F, which is F(0).
 pub record ClosureRounds (fr : Frame) (R : ℕ) (F : List Bool) : Type 0 where
-  -- each F(k) is in F(k+1)
+  -- "F(k+1) is F(k) and the head of every rule instance whose body grants are all in F(k) and whose other atoms hold"
+  pub next : (k x : ℕ) → (has (iter (accesses fr) (clauses fr R) (suc k) F) x ≡ true) ↔ ((has (iter (accesses fr) (clauses fr R) k F) x ≡ true) ⊎ Fired (Instance fr R) (iter (accesses fr) (clauses fr R) k F) x)
+  -- so F grows
   pub grows : (k : ℕ) → Sub (iter (accesses fr) (clauses fr R) k F) (iter (accesses fr) (clauses fr R) (suc k) F)
   -- "Rounds used: the least k up to the limit with F(k+1) = F(k), else the limit", and no other number is that
   pub least : (m : ℕ) → Least (accesses fr) (clauses fr R) m F (used (accesses fr) (clauses fr R) m F)
