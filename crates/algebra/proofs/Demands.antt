@@ -1,47 +1,19 @@
 -- The demands, proved of every policy.
-use mathlib.Core.Path.{_≡_, refl, _∙_}
-use mathlib.Core.Bool.{Bool, true, false, false≢true}
+use mathlib.Core.Path.{_≡_, _∙_}
+use mathlib.Core.Bool.{Bool, false≢true}
 use mathlib.Core.List.{List}
 use Prim.Native.Nat.{ℕ, suc, _<_}
 use native.Mathlib.Omega.{arith}
 use lib.ListN.{length}
-use Rattle.algebra.specs.Answer.{deny, undecided, permit, sure}
-use Rattle.algebra.specs.Policy.{Frame, Table, Policy, accesses, clauses, model, tableAt, isGranted, tableAnswer, tableSet, policyAnswer, policyRounds, policySet}
-use Rattle.algebra.specs.Demands.{Sound, Whole, Complete, Supplied, Later, Stable, ClosureRounds, FewRounds, Demands}
-use Rattle.algebra.proofs.Answer.{Says, false-of, nothing-of, true-of, says-permit, says-deny, says-known, Known, known-deny, known-permit, known-test, Keeps, was-open, stays, keeps-known}
+use Rattle.algebra.specs.Answer.{deny, undecided, permit}
+use Rattle.algebra.specs.Policy.{Frame, Policy, accesses, clauses, model, tableAnswer, policyAnswer, policyRounds, policySet}
+use Rattle.algebra.specs.Demands.{Sound, Whole, Complete, Later, Stable, ClosureRounds, FewRounds, Demands}
+use Rattle.algebra.proofs.Answer.{Says, says-permit, says-deny, says-known, Known, known-test, Keeps, keeps-known}
 use Rattle.algebra.proofs.Rounds.{next-iff, iter-up, used-least, least-unique, used-le-N, at-rest, der-iff}
 use Rattle.algebra.proofs.Derivation.{height-iff}
 use Rattle.algebra.proofs.Algebra.{sound, complete, stable, rounds-le}
 use Rattle.algebra.proofs.Instances.{exact}
-
--- ---- tables
-
-table-says : (ts : List Table) (later : ℕ → ℕ → Type 0) (n x : ℕ) → Says (tableSet ts later n x) (tableAnswer ts n x)
-unfolding tableSet tableAnswer
-table-says ts later n x = go (tableAt ts n .here) (isGranted (tableAt ts n) x)
-  where
-    go : (h g : Bool) → Says (elim h [ true ↦ g ≡ true | false ↦ later n x ]) (elim h [ true ↦ sure g | false ↦ undecided ])
-    go true true = true-of refl
-    go true false = false-of false≢true
-    go false g = nothing-of
-
-table-known : (ts : List Table) (n x : ℕ) → tableAt ts n .here ≡ true → Known (tableAnswer ts n x)
-unfolding tableAnswer
-table-known ts n x h = go (tableAt ts n .here) (isGranted (tableAt ts n) x) h
-  where
-    go : (h g : Bool) → h ≡ true → Known (elim h [ true ↦ sure g | false ↦ undecided ])
-    go true true e = known-permit
-    go true false e = known-deny
-    go false g e = absurd (false≢true e)
-
-table-keeps : (ts ts′ : List Table) → Supplied ts ts′ → (n x : ℕ) → Keeps (tableAnswer ts n x) (tableAnswer ts′ n x)
-unfolding Supplied tableAnswer
-table-keeps ts ts′ s n x =
-    go (tableAt ts n .here) (isGranted (tableAt ts n) x) (tableAt ts′ n .here) (isGranted (tableAt ts′ n) x) (λ h. let r = s n h in (r .0, r .1 x))
-  where
-    go : (h g h′ g′ : Bool) → (h ≡ true → (h′ ≡ true) × (g′ ≡ g)) → Keeps (elim h [ true ↦ sure g | false ↦ undecided ]) (elim h′ [ true ↦ sure g′ | false ↦ undecided ])
-    go true g h′ g′ f = let r = f refl in rw (r .0, r .1) stays
-    go false g h′ g′ f = was-open
+use Rattle.algebra.proofs.Tables.{table-says, table-known, table-keeps}
 
 -- ---- "a permit is an access that demand 2's set contains and a deny one that it lacks"
 
