@@ -1,6 +1,5 @@
 -- Laws of the bytes that Compose writes and of the byte that Decide returns.
 use mathlib.Core.Path.{_≡_, sym, ap, _∙_}
-use mathlib.Core.List.{map}
 use Prim.Native.Nat.{ℕ, _<_}
 use lib.ListN.{length, getD, length-map, List·getD-map}
 use Rattle.algebra.specs.Sort.{subject, object, action}

@@ -1,5 +1,5 @@
 -- Laws of the postfix program: on a stack of sets it leaves the tree's answers, and the most sets on the stack are the sets held.
-use mathlib.Core.Path.{_≡_, refl, sym, ap, _∙_}
+use mathlib.Core.Path.{_≡_, refl, ap, _∙_}
 use mathlib.Core.List.{List, [], _∷_, _++_}
 use Prim.Native.Nat.{ℕ, zero, suc, _+_, _*_, _-_, _≤_, max}
 use native.Mathlib.Omega.{arith}
@@ -170,3 +170,39 @@ module _ {C : Type 0} where
   length-steps (override p q s) = let a = length-steps p in let b = length-steps q in let c = length-steps s in simp length-append (omega arith)
   length-steps (scope c t) = let a = length-steps t in simp length-append (omega arith)
   length-steps (closure R t) = let a = length-steps t in simp length-append (omega arith)
+
+-- ---- at every step the stack holds the step's operands
+
+unfoldable pub operands : {C : Type 0} → Step C → ℕ
+operands (table-step n) = 0
+operands plus-step = 2
+operands both-step = 2
+operands minus-step = 2
+operands override-step = 3
+operands (scope-step c) = 1
+operands (closure-step R) = 1
+
+module _ {C : Type 0} where
+  unfoldable pub Ready : ℕ → List (Step C) → Type 0
+  Ready h [] = Unit {0}
+  Ready h (i ∷ is) = (operands i ≤ h) × Ready (after h i) is
+
+  ready-append : (h : ℕ) (is js : List (Step C)) → Ready h is → Ready (final h is) js → Ready h (is ++ js)
+  unfolding Ready final
+  ready-append h [] js r s = s
+  ready-append h (i ∷ is) js r s = (r .0, ready-append (after h i) is js (r .1) s)
+
+  -- a tree's program, and what comes after it
+  ready-then : (h : ℕ) (t : Tree C) (js : List (Step C)) → Ready h (steps t) → Ready (suc h) js → Ready h (steps t ++ js)
+  ready-then h t js r s = ready-append h (steps t) js r (rw (counted t h .0) s)
+
+  pub ready-steps : (t : Tree C) (h : ℕ) → Ready h (steps t)
+  unfolding Ready steps operands
+  ready-steps (table n) h = (omega arith, tt)
+  ready-steps (plus l r) h = ready-then h l _ (ready-steps l h) (ready-then (suc h) r _ (ready-steps r (suc h)) (omega arith, tt))
+  ready-steps (both l r) h = ready-then h l _ (ready-steps l h) (ready-then (suc h) r _ (ready-steps r (suc h)) (omega arith, tt))
+  ready-steps (minus l r) h = ready-then h l _ (ready-steps l h) (ready-then (suc h) r _ (ready-steps r (suc h)) (omega arith, tt))
+  ready-steps (override p q s) h =
+      ready-then h p _ (ready-steps p h) (ready-then (suc h) q _ (ready-steps q (suc h)) (ready-then (suc (suc h)) s _ (ready-steps s (suc (suc h))) (omega arith, tt)))
+  ready-steps (scope c t) h = ready-then h t _ (ready-steps t h) (omega arith, tt)
+  ready-steps (closure R t) h = ready-then h t _ (ready-steps t h) (omega arith, tt)

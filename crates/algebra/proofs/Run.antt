@@ -7,14 +7,14 @@ use native.Mathlib.Omega.{arith}
 use lib.ListN.{length, getD, length-map}
 use lib.Seq.{ext-getD}
 use Rattle.algebra.specs.Lists.{tab}
-use Rattle.algebra.specs.Answer.{Answer, deny, _⊔_, _⊓_, _⊖_, keep}
+use Rattle.algebra.specs.Answer.{Answer, deny, _⊔_, _⊓_, _⊖_, keep, known}
 use Rattle.algebra.specs.Rounds.{Clause, has, iter, used}
 use Rattle.algebra.specs.Algebra.{Tree, table, plus, both, minus, override, scope, closure, Model, permits, grade, decided, close, answer, rounds}
 use Rattle.algebra.specs.Policy.{Policy, accesses, model, tableAnswer, policyAnswer, answers, policyRounds}
-use Rattle.algebra.proofs.Lists.{length-tab, getD-tab, getD-map-lt}
+use Rattle.algebra.proofs.Lists.{length-tab, getD-tab, getD-map-lt, every-cong}
 use Rattle.algebra.proofs.Bytes.{length-answers, answers-at}
 use Rattle.algebra.proofs.Rounds.{length-iter}
-use Rattle.algebra.proofs.Algebra.{length-permits, permits-cong, decided-cong}
+use Rattle.algebra.proofs.Algebra.{length-permits, permits-cong}
 
 pub record Ran : Type 0 where
   pub values : List Answer
@@ -61,6 +61,10 @@ replace-right N u v w = record {
   right-values = λ x h. getD-tab N _ x deny h ∙ rw (u .right-values x h, v .right-values x h, w .right-values x h) refl;
   right-rounds = rw (u .right-rounds, v .right-rounds, w .right-rounds);
 }
+
+decided-cong : (N : ℕ) (G : List Clause) (lim : ℕ) (a a′ : ℕ → Answer) → ((y : ℕ) → y < N → a y ≡ a′ y) → decided N G lim a ≡ decided N G lim a′
+unfolding decided
+decided-cong N G lim a a′ h = rw (permits-cong N a a′ h, every-cong N (λ y. known (a y)) (λ y. known (a′ y)) (λ y l. ap known (h y l)))
 
 shut-right : (N : ℕ) (G : List Clause) (lim : ℕ) {a : ℕ → Answer} {j : ℕ} {p : Ran} → Right N a j p
     → Right N (close N G lim a) (j + used N G lim (permits N a)) (shut N G lim p)
