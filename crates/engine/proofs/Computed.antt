@@ -16,7 +16,7 @@ use Rattle.algebra.proofs.Bool.{and-both}
 use Rattle.algebra.proofs.Run.{composed, composed-answers, composed-rounds}
 use Rattle.reader.specs.Declared.{Members, membersOf}
 use Rattle.reader.specs.File.{Accepted, Outcome, refused, accepted, readFile}
-use Rattle.reader.specs.Text.{text}
+use Rattle.grammar.specs.Text.{text}
 use Rattle.reader.proofs.Computed.{computedFile}
 use Rattle.engine.specs.Calls.{Composed, tally, composition, unchanged, compose}
 use Rattle.engine.specs.Calls as Calls
@@ -56,7 +56,7 @@ numbers-computed f r m h h′ = long (leb 4096 (length r) && leb 65536 (length m
 -- ---- the listing
 
 unfoldable pub outcomeListing : Outcome → List ℕ
-unfolding composed clauses inScope compares tableAnswer permits decided fires step used settled same every tally digitsOf decimal closedLine wordOf nameOf accessLines grantsListing text membersOf part
+unfolding composed clauses inScope compares tableAnswer permits decided fires step used settled same every tally digitsOf decimal closedLine wordOf nameOf accessLines grantsListing membersOf part
 outcomeListing (refused k l p) = listingOf (refused k l p)
 outcomeListing (accepted a) = let r = composed (a .policy) in grantsListing (a .members) (a .policy .frame) (map byte (r .values)) (r .used-rounds)
 

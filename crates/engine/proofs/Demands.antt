@@ -210,7 +210,7 @@ complete : (f : List ℕ) → Complete f
 unfolding inSet
 complete f = record {
   none-undecided = λ h x s. let w = says-answer f x 1 s in
-      policy-complete (w .file .policy) .none-open (whole (w .file) (subst AllHere (w .is-file) h)) x (w .is-access) (byte-undecided _ (w .is-answer));
+      policy-complete (w .file .policy) .none-undecided (whole (w .file) (subst AllHere (w .is-file) h)) x (w .is-access) (byte-undecided _ (w .is-answer));
   permit-iff = λ h later x b s. let w = says-answer f x b s in
       let i = policy-complete (w .file .policy) .permit-iff (whole (w .file) (subst AllHere (w .is-file) h)) later x (w .is-access) in
       (λ e. subst (λ (o : Outcome). inSet o later x) (sym (w .is-file)) (i .0 (byte-permit _ (w .is-answer ∙ e))),

@@ -4,7 +4,7 @@ use mathlib.Core.List.{List, [], _∷_, _++_, map}
 use Prim.Native.Nat.{ℕ, _≤_}
 use Prim.Native.String.{String}
 use lib.ListN.{length}
-use Rattle.reader.specs.Text.{text}
+use Rattle.grammar.specs.Text.{text}
 use Rattle.engine.specs.Calls.{Composed, compose}
 
 -- the lines before E: the members, then the table `forms`, here with its grant or away, then the rule that passes grants down to subjects

@@ -3,15 +3,9 @@ use mathlib.Core.Bool.{Bool, true, false, cond, not, _&&_, _||_}
 use mathlib.Core.List.{List, [], _∷_}
 use mathlib.Core.Option.{Option, none, some}
 use Prim.Native.Nat.{ℕ, zero, suc, _+_, _*_, _-_}
-use Prim.Native.Char.{Char, code}
-use Prim.Native.String.{String, [] as noText, _∷_ as _then_}
+use Prim.Native.Char.{code}
 use lib.Dec.{eqb, leb}
 use lib.ListN.{length, getD}
-
--- the bytes of a quoted word
-unfoldable pub text : String → List ℕ
-text noText = []
-text (c then s) = code c ∷ text s
 
 -- two texts are the same
 unfoldable pub same : List ℕ → List ℕ → Bool
