@@ -8,4 +8,5 @@ pub mod Derivation
 pub mod Algebra
 pub mod Program
 pub mod Policy
+pub mod Stored
 pub mod Demands

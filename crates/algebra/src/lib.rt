@@ -64,3 +64,21 @@ pub fn scoped(x: u8, inside: bool) -> u8
 {
     if inside { x } else { 0 }
 }
+
+// A rule's atom as the code holds it. A term is a variable, 0 to 3, or a member's number and 4. Kind 0: a grant of x, y and z.
+// Kinds 1 to 5: x le, ge, lt, gt or eq y, in the sort 0, 1 or 2. Kind 6: the predicate number z of x, in the sort.
+pub struct StoredAtom {
+    pub kind: u8,
+    pub sort: u8,
+    pub x: u8,
+    pub y: u8,
+    pub z: u8,
+}
+
+// A rule as the code holds it: the number of its set, its head, a grant, and the first `count` atoms of its body.
+pub struct StoredRule {
+    pub set: u8,
+    pub head: StoredAtom,
+    pub body: [StoredAtom; 4],
+    pub count: u8,
+}

@@ -212,9 +212,10 @@ complete f = record {
   none-undecided = λ h x s. let w = says-answer f x 1 s in
       policy-complete (w .file .policy) .none-undecided (whole (w .file) (subst AllHere (w .is-file) h)) x (w .is-access) (byte-undecided _ (w .is-answer));
   permit-iff = λ h later x b s. let w = says-answer f x b s in
-      let i = policy-complete (w .file .policy) .permit-iff (whole (w .file) (subst AllHere (w .is-file) h)) later x (w .is-access) in
-      (λ e. subst (λ (o : Outcome). inSet o later x) (sym (w .is-file)) (i .0 (byte-permit _ (w .is-answer ∙ e))),
-       λ k. sym (w .is-answer) ∙ ap byte (i .1 (subst (λ (o : Outcome). inSet o later x) (w .is-file) k)));
+      let i = policy-complete (w .file .policy) .permit-iff (whole (w .file) (subst AllHere (w .is-file) h)) later x (w .is-access) in (
+        λ e. subst (λ (o : Outcome). inSet o later x) (sym (w .is-file)) (i .0 (byte-permit _ (w .is-answer ∙ e))),
+        λ k. sym (w .is-answer) ∙ ap byte (i .1 (subst (λ (o : Outcome). inSet o later x) (w .is-file) k)),
+      );
 }
 
 stable : (f f′ : List ℕ) → Stable f f′

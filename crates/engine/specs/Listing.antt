@@ -39,8 +39,8 @@ unfoldable pub accessLines : Members → Frame → ℕ → List ℕ → List ℕ
 accessLines m fr x [] = []
 accessLines m fr x (b ∷ bs) =
     elim (eqb b 0) [
-      true ↦ accessLines m fr (suc x) bs
-    | false ↦ closedLine (wordOf b ∷ nameOf m subject (part fr subject x) ∷ nameOf m object (part fr object x) ∷ nameOf m action (part fr action x) ∷ []) ++ accessLines m fr (suc x) bs
+      | true ↦ accessLines m fr (suc x) bs
+      | false ↦ closedLine (wordOf b ∷ nameOf m subject (part fr subject x) ∷ nameOf m object (part fr object x) ∷ nameOf m action (part fr action x) ∷ []) ++ accessLines m fr (suc x) bs
     ]
 
 -- `grants,N,permits,undecided,rounds`, then the lines of the accesses

@@ -47,20 +47,20 @@ refuses f n l p = record { file = f; numbers = n ∷ l ∷ p ∷ 0 ∷ 0 ∷ 0 �
 
 unfoldable pub cases : List Case
 cases =
-    gives (here "E,4096,forms*down^[o<=week]\n") 2 0 1 ∷                -- K1
-    gives (here "E,4096,forms*down^[o<week]\n") 0 0 1 ∷                 -- K2
-    gives (here "E,1,forms*down^[o<=week]\n") 2 0 1 ∷                   -- K3
-    gives (here "E,0,forms*down^[o<=week]\n") 1 3 0 ∷                   -- K4
-    gives (here "E,0,forms*down^[o<week]\n") 0 2 0 ∷                    -- K5
-    gives (away "E,4096,forms*down\n") 0 4 0 ∷                          -- K6
-    gives (away "E,4096,forms-forms\n") 0 4 0 ∷                         -- K7
-    gives (away "E,4096,forms&forms^[o<week]\n") 0 2 0 ∷                -- K8
-    gives (here "E,4096,forms+forms-forms\n") 0 0 0 ∷                   -- K9
-    gives (here "E,4096,o(forms,forms*down,forms*down)\n") 2 0 2 ∷      -- K10
-    refuses (here "E,4096,forms-\n") 12 11 6 ∷                          -- K11
-    refuses (here "E,4096,forms^[o<wk]\n") 13 11 9 ∷                    -- K12
-    gives (twoRules "E,1,forms*down\n") 3 1 1 ∷                         -- K13
-    gives (twoRules "E,4096,forms*down\n") 4 0 2 ∷ []                   -- K14
+    gives (here "E,4096,forms*down^[o<=week]\n") 2 0 1 ∷  -- K1
+    gives (here "E,4096,forms*down^[o<week]\n") 0 0 1 ∷  -- K2
+    gives (here "E,1,forms*down^[o<=week]\n") 2 0 1 ∷  -- K3
+    gives (here "E,0,forms*down^[o<=week]\n") 1 3 0 ∷  -- K4
+    gives (here "E,0,forms*down^[o<week]\n") 0 2 0 ∷  -- K5
+    gives (away "E,4096,forms*down\n") 0 4 0 ∷  -- K6
+    gives (away "E,4096,forms-forms\n") 0 4 0 ∷  -- K7
+    gives (away "E,4096,forms&forms^[o<week]\n") 0 2 0 ∷  -- K8
+    gives (here "E,4096,forms+forms-forms\n") 0 0 0 ∷  -- K9
+    gives (here "E,4096,o(forms,forms*down,forms*down)\n") 2 0 2 ∷  -- K10
+    refuses (here "E,4096,forms-\n") 12 11 6 ∷  -- K11
+    refuses (here "E,4096,forms^[o<wk]\n") 13 11 9 ∷  -- K12
+    gives (twoRules "E,1,forms*down\n") 3 1 1 ∷  -- K13
+    gives (twoRules "E,4096,forms*down\n") 4 0 2 ∷ []  -- K14
 
 abbrev pub numbersOf : Composed → List ℕ
 numbersOf c = c .number ∷ c .line ∷ c .place ∷ c .accesses ∷ c .permits ∷ c .undecided ∷ c .rounds ∷ []
