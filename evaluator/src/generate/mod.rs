@@ -1,0 +1,50 @@
+//! A seeded generator of policy files, for comparing programs on many files.
+//! The same seed, number and kind give the same bytes on every machine.
+
+mod damaged;
+mod expression;
+mod large;
+pub mod random;
+mod sound;
+
+use random::Random;
+
+#[derive(Clone, Copy, Debug, PartialEq, Eq)]
+pub enum Kind {
+    /// Accepted files that use every construct.
+    Sound,
+    /// Sound files with one to three faults; a few stay accepted.
+    Damaged,
+    /// Files near the limits, some of them just past one.
+    Large,
+    /// All of these.
+    Mixed,
+}
+
+impl Kind {
+    pub const ALL: [Kind; 4] = [Kind::Sound, Kind::Damaged, Kind::Large, Kind::Mixed];
+
+    pub fn word(self) -> &'static str {
+        match self {
+            Kind::Sound => "sound",
+            Kind::Damaged => "damaged",
+            Kind::Large => "large",
+            Kind::Mixed => "mixed",
+        }
+    }
+}
+
+/// The file with this number among those of a seed and kind.
+pub fn policy(seed: u64, number: u64, kind: Kind) -> Vec<u8> {
+    let random = &mut Random::new(seed, kind as u64, number);
+    match kind {
+        Kind::Sound => sound::policy(random).file(),
+        Kind::Damaged => damaged::policy(random, number),
+        Kind::Large => large::policy(random, number),
+        Kind::Mixed => match number % 8 {
+            0..=3 => sound::policy(random).file(),
+            4..=6 => damaged::policy(random, number),
+            _ => large::policy(random, number / 8),
+        },
+    }
+}

@@ -1,0 +1,96 @@
+//! The command line of the evaluator.
+
+use std::ffi::OsString;
+use std::fs;
+use std::io::{self, Read, Write};
+use std::path::Path;
+use std::process::ExitCode;
+
+use evaluator::corpus;
+use evaluator::generate::{self, Kind};
+use evaluator::reader::MOST_FILE_BYTES;
+
+const USAGE: &str = "usage:
+  evaluator list < FILE
+  evaluator check < FILE
+  evaluator decide SUBJECT OBJECT ACTION < FILE
+  evaluator generate SEED COUNT sound|damaged|large|mixed DIR
+  evaluator corpus DIR
+";
+
+fn main() -> ExitCode {
+    let arguments: Vec<OsString> = std::env::args_os().skip(1).collect();
+    match run(&arguments) {
+        Ok(code) => code,
+        Err(error) => {
+            let _ = writeln!(io::stderr(), "evaluator: {error}");
+            ExitCode::FAILURE
+        }
+    }
+}
+
+fn run(arguments: &[OsString]) -> io::Result<ExitCode> {
+    let words: Vec<&[u8]> = arguments.iter().map(|a| a.as_encoded_bytes()).collect();
+    match words[..] {
+        [b"list"] => print(&evaluator::list(&input()?)),
+        [b"check"] => print(&(corpus::check_line(&input()?) + "\n")),
+        [b"decide", s, o, a] => print(&(corpus::decide_line(&input()?, [s, o, a]) + "\n")),
+        [b"generate", seed, count, kind, _] => {
+            let kind = Kind::ALL.into_iter().find(|k| k.word().as_bytes() == kind);
+            match (number(seed), number(count), kind) {
+                (Some(seed), Some(count), Some(kind)) => {
+                    write_policies(seed, count, kind, Path::new(&arguments[4]))
+                }
+                _ => usage(),
+            }
+        }
+        [b"corpus", _] => compare(Path::new(&arguments[1])),
+        _ => usage(),
+    }
+}
+
+/// Standard input, of which one byte too many is enough to refuse it.
+fn input() -> io::Result<Vec<u8>> {
+    let mut file = Vec::new();
+    let most = MOST_FILE_BYTES as u64 + 1;
+    io::stdin().lock().take(most).read_to_end(&mut file)?;
+    Ok(file)
+}
+
+fn number(text: &[u8]) -> Option<u64> {
+    std::str::from_utf8(text).ok()?.parse().ok()
+}
+
+fn print(text: &str) -> io::Result<ExitCode> {
+    io::stdout().write_all(text.as_bytes())?;
+    Ok(ExitCode::SUCCESS)
+}
+
+fn usage() -> io::Result<ExitCode> {
+    io::stderr().write_all(USAGE.as_bytes())?;
+    Ok(ExitCode::from(2))
+}
+
+fn write_policies(seed: u64, count: u64, kind: Kind, folder: &Path) -> io::Result<ExitCode> {
+    fs::create_dir_all(folder)?;
+    for index in 0..count {
+        let file = generate::policy(seed, index, kind);
+        fs::write(folder.join(format!("{index:06}.pol")), file)?;
+    }
+    Ok(ExitCode::SUCCESS)
+}
+
+fn compare(folder: &Path) -> io::Result<ExitCode> {
+    let report = corpus::compare(folder)?;
+    let failed = report.differences.len();
+    let mut text = String::new();
+    for difference in &report.differences {
+        text += &format!("{difference}\n");
+    }
+    text += &format!("{} passed, {failed} failed\n", report.passed);
+    print(&text)?;
+    Ok(match failed {
+        0 => ExitCode::SUCCESS,
+        _ => ExitCode::FAILURE,
+    })
+}

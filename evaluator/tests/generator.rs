@@ -1,0 +1,242 @@
+//! The generator: its numbers, its kinds, and what the calls agree on over
+//! its files.
+
+use evaluator::expression::{operators, sets_held, Join, Step};
+use evaluator::generate::random::Random;
+use evaluator::generate::{self, Kind};
+use evaluator::policy::{Atom, Policy};
+use evaluator::reader::read;
+use evaluator::{check, compose, decide, list};
+
+fn files(seed: u64, count: u64, kind: Kind) -> impl Iterator<Item = Vec<u8>> {
+    (0..count).map(move |number| generate::policy(seed, number, kind))
+}
+
+#[test]
+fn random_numbers_are_those_of_splitmix64() {
+    let random = &mut Random::from_state(1_234_567);
+    let expected = [
+        6_457_827_717_110_365_317,
+        3_203_168_211_198_807_973,
+        9_817_491_932_198_370_423,
+        4_593_380_528_125_082_431,
+        16_408_922_859_458_223_821,
+    ];
+    for number in expected {
+        assert_eq!(random.draw(), number);
+    }
+}
+
+#[test]
+fn a_seed_gives_its_own_files() {
+    for kind in Kind::ALL {
+        let first: Vec<_> = files(1, 40, kind).collect();
+        assert!(first == files(1, 40, kind).collect::<Vec<_>>(), "{kind:?}");
+        assert!(first != files(2, 40, kind).collect::<Vec<_>>(), "{kind:?}");
+        // A file does not depend on those before it.
+        assert!(first[39] == generate::policy(1, 39, kind), "{kind:?}");
+    }
+}
+
+/// The constructs that a policy uses.
+fn constructs(policy: &Policy, file: &[u8]) -> Vec<String> {
+    let mut found = Vec::new();
+    for rule in &policy.rules {
+        found.push(format!("body of {}", rule.body.len()));
+        for atom in &rule.body {
+            found.push(match atom {
+                Atom::Grant(_) => "grant".to_string(),
+                Atom::Order(_, order, ..) => format!("{order:?}"),
+                Atom::Has(..) => "has".to_string(),
+            });
+        }
+    }
+    for step in &policy.expression {
+        found.push(match step {
+            Step::Table(table) => format!("table here {}", policy.tables[*table].here),
+            Step::Join(join) => format!("{join:?}"),
+            Step::Override => "override".to_string(),
+            Step::Closure(_) => "closure".to_string(),
+            Step::Scope(sort, _) => format!("scope of {sort:?}"),
+        });
+    }
+    let text = String::from_utf8_lossy(file);
+    for part in [
+        "<=", ">=", "^[s<", "=", "(s)]", "(o)]", "(a)]", "+(", "*", ",o(",
+    ] {
+        let expression = text.rsplit_once("\nE,").map_or("", |(_, line)| line);
+        if expression.contains(part) {
+            found.push(format!("text {part}"));
+        }
+    }
+    let lines: Vec<&str> = text.lines().collect();
+    let repeated = |kind| {
+        let of_kind = lines.iter().filter(|line| line.starts_with(kind));
+        let mut of_kind: Vec<_> = of_kind.collect();
+        of_kind.sort();
+        of_kind.windows(2).any(|pair| pair[0] == pair[1])
+    };
+    if repeated("P,") {
+        found.push("repeated P".to_string());
+    }
+    if repeated("G,") {
+        found.push("repeated G".to_string());
+    }
+    let members = policy.members.iter();
+    if members
+        .clone()
+        .any(|sort| sort.parents.iter().any(Option::is_some))
+    {
+        found.push("parent".to_string());
+    }
+    if members
+        .flat_map(|sort| &sort.names)
+        .any(|name| name.len() == 24)
+    {
+        found.push("longest name".to_string());
+    }
+    if policy.rule_sets.len() > 1 {
+        found.push("several rule sets".to_string());
+    }
+    if [0, 4_096].contains(&policy.limit) {
+        found.push(format!("limit {}", policy.limit));
+    }
+    found
+}
+
+#[test]
+fn sound_files_are_accepted_and_use_every_construct() {
+    let mut found = Vec::new();
+    let (mut answers, mut rounds) = ([0; 3], 0);
+    for file in files(3, 300, Kind::Sound) {
+        let policy = read(&file).unwrap_or_else(|refusal| panic!("{refusal}"));
+        found.extend(constructs(&policy, &file));
+        let composed = compose(&file).expect("accepted");
+        for &answer in &composed.answers {
+            answers[usize::from(answer)] += 1;
+        }
+        rounds += usize::from(composed.rounds > 1);
+    }
+    let wanted = "body of 0/body of 1/body of 2/body of 3/body of 4/grant/has/Le/Ge/Lt/Gt/Eq/\
+        table here true/table here false/override/closure/\
+        scope of Subject/scope of Object/scope of Action/\
+        text <=/text >=/text ^[s</text =/text (s)]/text (o)]/text (a)]/text +(/text */text ,o(/\
+        repeated P/repeated G/parent/longest name/several rule sets/limit 0/limit 4096";
+    let joins = [Join::Plus, Join::And, Join::Minus].map(|join| format!("{join:?}"));
+    for construct in wanted.split('/').chain(joins.iter().map(|join| &join[..])) {
+        let times = found.iter().filter(|known| *known == construct).count();
+        assert!(times >= 5, "{construct}: {times}");
+    }
+    assert!(answers.iter().all(|&times| times > 1_000), "{answers:?}");
+    assert!(rounds > 20, "{rounds}");
+}
+
+#[test]
+fn damaged_files_meet_every_refusal() {
+    let mut times = [0; 16];
+    for file in files(4, 600, Kind::Damaged) {
+        if let Err(refusal) = check(&file) {
+            times[refusal.number as usize] += 1;
+        }
+    }
+    for number in 2..=14 {
+        assert!(times[number] >= 10, "{number}: {times:?}");
+    }
+}
+
+#[test]
+fn large_files_are_near_the_limits() {
+    let all: Vec<_> = files(5, 300, Kind::Large).collect();
+    for length in [32_767, 32_768] {
+        let of_length = |file: &&Vec<u8>| file.len() == length;
+        assert!(all.iter().filter(of_length).any(|file| check(file).is_ok()));
+    }
+    assert!(all.iter().any(|file| file.len() == 32_769));
+    let policies: Vec<_> = all.iter().filter_map(|file| read(file).ok()).collect();
+    let some = |met: &dyn Fn(&Policy) -> bool| policies.iter().any(met);
+    assert!(some(&|policy| policy.accesses() == 4_096));
+    assert!(some(&|policy| policy.rules.len() == 64));
+    assert!(some(&|policy| policy.rule_sets.len() == 16));
+    assert!(some(&|policy| policy.predicates.len() == 16));
+    assert!(some(&|policy| policy.tables.len() == 16));
+    assert!(some(&|policy| operators(&policy.expression) == 64));
+    assert!(some(&|policy| sets_held(&policy.expression) == 14));
+    let closures = |policy: &Policy| {
+        let closure = |step: &&Step| matches!(step, Step::Closure(_));
+        policy.expression.iter().filter(closure).count()
+    };
+    assert!(some(&|policy| closures(policy) == 43));
+    let number = |file: &Vec<u8>| check(file).err().map(|refusal| refusal.number);
+    for wanted in [2, 12, 13, 14] {
+        assert!(
+            all.iter().any(|file| number(file) == Some(wanted)),
+            "{wanted}"
+        );
+    }
+}
+
+#[test]
+fn mixed_files_are_of_all_kinds() {
+    let all: Vec<_> = files(6, 160, Kind::Mixed).collect();
+    let accepted = all.iter().filter(|file| check(file).is_ok()).count();
+    assert!((80..140).contains(&accepted), "{accepted}");
+    assert!(all.iter().any(|file| file.len() >= 32_767));
+}
+
+/// The three calls and the listing over one file.
+fn assert_calls_agree(file: &[u8]) {
+    let listing = list(file);
+    match (read(file), check(file), compose(file)) {
+        (Ok(policy), Ok(counts), Ok(composed)) => {
+            assert_eq!(counts, policy.counts());
+            let n: usize = counts.iter().product();
+            assert_eq!(composed.answers.len(), n);
+            let shown = composed.permits + composed.undecided;
+            assert_eq!(listing.lines().count(), 1 + shown);
+            let (permits, undecided, rounds) =
+                (composed.permits, composed.undecided, composed.rounds);
+            let first = format!("grants,{n},{permits},{undecided},{rounds}\n");
+            assert!(listing.starts_with(&first), "{listing}");
+            for number in [0, n / 2, n - 1] {
+                let [s, o, a] = policy.access(number);
+                let names = &policy.members;
+                let decision = decide(
+                    file,
+                    &names[0].names[s],
+                    &names[1].names[o],
+                    &names[2].names[a],
+                );
+                let decision = decision.expect("declared names");
+                assert_eq!(decision.answer, composed.answers[number]);
+                assert_eq!(decision.rounds, composed.rounds);
+            }
+        }
+        (Err(refusal), checked, composed) => {
+            assert_eq!(checked, Err(refusal));
+            assert_eq!(composed, Err(refusal));
+            assert_eq!(decide(file, b"", b"", b""), Err(refusal));
+            assert_eq!(listing, format!("{refusal}\n"));
+        }
+        other => panic!("{other:?}"),
+    }
+}
+
+#[test]
+fn calls_agree() {
+    for file in files(10, 240, Kind::Mixed) {
+        assert_calls_agree(&file);
+    }
+}
+
+#[test]
+fn senseless_bytes_are_refused() {
+    let random = &mut Random::from_state(40);
+    let bytes = b"SOAPTGRBE,,,,\n\n-?0123abcxyz_hereawaygrant()[]^*+&<>=\r\0\x80\xff";
+    for _ in 0..2_000 {
+        let length = random.between(0, 300);
+        let mut file: Vec<u8> = (0..length).map(|_| random.choose(bytes)).collect();
+        file.push(b'\n');
+        assert!(check(&file).is_err());
+        assert_calls_agree(&file);
+    }
+}
