@@ -1,11 +1,11 @@
--- The worked cases K1 to K14, as one list: each file, and the numbers that Compose returns for it.
+-- The worked cases K1 to K14, as one list: each file, and the numbers that Compose returns for it. And some asks of Decide on K1's file.
 use mathlib.Core.Path.{_≡_}
 use mathlib.Core.List.{List, [], _∷_, _++_, map}
 use Prim.Native.Nat.{ℕ, _≤_}
 use Prim.Native.String.{String}
 use lib.ListN.{length}
 use Rattle.grammar.specs.Text.{text}
-use Rattle.engine.specs.Calls.{Composed, compose}
+use Rattle.engine.specs.Calls.{Composed, compose, Decided, decide}
 
 -- the lines before E: the members, then the table `forms`, here with its grant or away, then the rule that passes grants down to subjects
 abbrev pub membersText : List ℕ
@@ -68,3 +68,31 @@ numbersOf c = c .number ∷ c .line ∷ c .place ∷ c .accesses ∷ c .permits 
 -- whatever the buffers hold
 unfoldable pub WorkedCases : Type 0
 WorkedCases = (r m : List ℕ) → 4096 ≤ length r → 65536 ≤ length m → map (λ (c : Case). numbersOf (compose (c .file) r m)) cases ≡ map (λ (c : Case). c .numbers) cases
+
+-- ---- Decide on K1's file: three names, and number, line, place, answer and rounds
+
+pub record Ask : Type 0 where
+  pub file : List ℕ
+  pub subject-name : List ℕ
+  pub object-name : List ℕ
+  pub action-name : List ℕ
+  pub decision : List ℕ
+
+abbrev pub asks : String → String → String → List ℕ → Ask
+asks s o a d = record { file = here "E,4096,forms*down^[o<=week]\n"; subject-name = text s; object-name = text o; action-name = text a; decision = d }
+
+unfoldable pub decisions : List Ask
+decisions =
+    asks "staff" "week" "read" (0 ∷ 0 ∷ 0 ∷ 2 ∷ 1 ∷ []) ∷
+    asks "ann" "week" "read" (0 ∷ 0 ∷ 0 ∷ 2 ∷ 1 ∷ []) ∷
+    asks "staff" "mon" "read" (0 ∷ 0 ∷ 0 ∷ 0 ∷ 1 ∷ []) ∷
+    asks "nobody" "nobody" "read" (15 ∷ 0 ∷ 1 ∷ 0 ∷ 0 ∷ []) ∷
+    asks "staff" "ann" "week" (15 ∷ 0 ∷ 2 ∷ 0 ∷ 0 ∷ []) ∷
+    asks "staff" "week" "" (15 ∷ 0 ∷ 3 ∷ 0 ∷ 0 ∷ []) ∷ []
+
+abbrev pub decisionOf : Decided → List ℕ
+decisionOf d = d .number ∷ d .line ∷ d .place ∷ d .answer ∷ d .rounds ∷ []
+
+unfoldable pub WorkedAsks : Type 0
+WorkedAsks = (m : List ℕ) → 65536 ≤ length m
+    → map (λ (q : Ask). decisionOf (decide (q .file) (q .subject-name) (q .object-name) (q .action-name) m)) decisions ≡ map (λ (q : Ask). q .decision) decisions

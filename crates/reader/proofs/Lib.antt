@@ -3,3 +3,4 @@ pub mod Lookup
 pub mod Later
 pub mod Members
 pub mod Computed
+pub mod Examples
