@@ -1,0 +1,116 @@
+//! Compares the engine's static library, and its listing program, with the separate evaluator.
+//!
+//!   compare check SEED COUNT            Check on generated files
+//!   compare calls SEED COUNT            Check, Compose and Decide on generated files, with every buffer
+//!   compare edits FILE                  all three on FILE cut at every byte, and with every byte changed
+//!   compare corpus DIR                  all three on every policy of a corpus, with asks.tsv
+//!   compare list PROGRAM SEED COUNT     the listing program on generated files
+//!
+//! The last line reads 'N passed, M failed'; a difference prints the seed and number that make the file again.
+
+mod buffers;
+mod calls;
+mod edits;
+
+use evaluator::generate::{policy, Kind};
+use std::io::Write;
+use std::process::{Command, ExitCode, Stdio};
+
+/// How many comparisons agreed and how many did not.
+#[derive(Default)]
+pub struct Tally {
+    pub passed: u64,
+    pub failed: u64,
+}
+
+impl Tally {
+    /// Counts one comparison; the first differences are printed.
+    pub fn count(&mut self, name: impl Fn() -> String, difference: Option<String>) {
+        match difference {
+            None => self.passed += 1,
+            Some(said) => {
+                self.failed += 1;
+                if self.failed <= 20 {
+                    println!("differs: {}: {said}", name());
+                }
+            }
+        }
+    }
+}
+
+fn generated(seed: u64, count: u64, mut compare: impl FnMut(&[u8]) -> Option<String>) -> Tally {
+    let mut tally = Tally::default();
+    for number in 0..count {
+        let file = policy(seed, number, Kind::Mixed);
+        tally.count(|| format!("seed {seed} number {number} (mixed)"), compare(&file));
+    }
+    tally
+}
+
+fn corpus(folder: &str) -> Tally {
+    let mut tally = Tally::default();
+    for group in ["worked", "readings", "valid", "broken", "big"] {
+        let mut files: Vec<_> = std::fs::read_dir(format!("{folder}/{group}"))
+            .expect("a corpus folder")
+            .map(|entry| entry.expect("an entry").path())
+            .filter(|path| path.extension().is_some_and(|e| e == "pol"))
+            .collect();
+        files.sort();
+        for path in files {
+            let file = std::fs::read(&path).expect("a policy");
+            tally.count(|| path.display().to_string(), calls::all(&file));
+        }
+    }
+    for line in std::fs::read_to_string(format!("{folder}/asks.tsv")).expect("asks.tsv").lines() {
+        let fields: Vec<&str> = line.split('\t').collect();
+        let file = std::fs::read(format!("{folder}/{}.pol", fields[0])).expect("a policy");
+        let said = calls::decision_text(&file, fields[1].as_bytes(), fields[2].as_bytes(), fields[3].as_bytes());
+        let difference = (said != fields[4]).then(|| format!("{said}, not {}", fields[4]));
+        tally.count(|| line.to_string(), difference);
+    }
+    tally
+}
+
+fn listed(program: &str, file: &[u8]) -> String {
+    let mut child = Command::new(program)
+        .stdin(Stdio::piped())
+        .stdout(Stdio::piped())
+        .spawn()
+        .expect("the listing program");
+    let mut input = child.stdin.take().expect("its input");
+    // The program may stop reading an overlong file.
+    let _ = input.write_all(file);
+    drop(input);
+    let output = child.wait_with_output().expect("its output");
+    String::from_utf8_lossy(&output.stdout).into_owned()
+}
+
+fn listing(program: &str, file: &[u8]) -> Option<String> {
+    let (said, expected) = (listed(program, file), evaluator::list(file));
+    (said != expected).then(|| format!("{:.60?}, not {:.60?}", said, expected))
+}
+
+fn number(word: Option<&String>) -> u64 {
+    word.and_then(|w| w.parse().ok()).expect("a number")
+}
+
+fn main() -> ExitCode {
+    let words: Vec<String> = std::env::args().skip(1).collect();
+    let tally = match words.first().map(String::as_str) {
+        Some("check") => generated(number(words.get(1)), number(words.get(2)), calls::check),
+        Some("calls") => generated(number(words.get(1)), number(words.get(2)), calls::all),
+        Some("edits") => edits::all(&std::fs::read(&words[1]).expect("a policy")),
+        Some("corpus") => corpus(&words[1]),
+        Some("list") => generated(number(words.get(2)), number(words.get(3)), |file| listing(&words[1], file)),
+        _ => {
+            eprintln!("compare check|calls SEED COUNT | edits FILE | corpus DIR | list PROGRAM SEED COUNT");
+            return ExitCode::FAILURE;
+        }
+    };
+    println!("{} passed, {} failed", tally.passed, tally.failed);
+    if tally.failed == 0 {
+        ExitCode::SUCCESS
+    } else {
+        ExitCode::FAILURE
+    }
+}

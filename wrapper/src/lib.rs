@@ -1,0 +1,121 @@
+//! The engine's three calls. Each function here only hands slices over the boundary and names the
+//! numbers that come back; what they are is said by the contracts of the engine's `Check`, `Compose`
+//! and `Decide`. Nothing checks these declarations against the library: they are assumed to fit.
+
+extern "C" {
+    fn snowdell_check(file: *const u8, file_len: usize, numbers: *mut u32, numbers_len: usize);
+    fn snowdell_compose(
+        file: *const u8,
+        file_len: usize,
+        result: *mut u8,
+        result_len: usize,
+        memory: *mut u8,
+        memory_len: usize,
+        numbers: *mut u32,
+        numbers_len: usize,
+    );
+    fn snowdell_decide(
+        file: *const u8,
+        file_len: usize,
+        subject: *const u8,
+        subject_len: usize,
+        object: *const u8,
+        object_len: usize,
+        action: *const u8,
+        action_len: usize,
+        memory: *mut u8,
+        memory_len: usize,
+        numbers: *mut u32,
+        numbers_len: usize,
+    );
+}
+
+/// The least length of Compose's result.
+pub const RESULT: usize = 4096;
+
+/// The least length of the working memory.
+pub const MEMORY: usize = 65536;
+
+/// Number, line and place, all 0 when accepted.
+#[derive(Clone, Copy, Debug, PartialEq, Eq)]
+pub struct Refusal {
+    pub number: u32,
+    pub line: u32,
+    pub place: u32,
+}
+
+#[derive(Clone, Copy, Debug, PartialEq, Eq)]
+pub struct Checked {
+    pub refusal: Refusal,
+    pub subjects: u32,
+    pub objects: u32,
+    pub actions: u32,
+}
+
+#[derive(Clone, Copy, Debug, PartialEq, Eq)]
+pub struct Composed {
+    pub refusal: Refusal,
+    pub accesses: u32,
+    pub permits: u32,
+    pub undecided: u32,
+    pub rounds: u32,
+}
+
+#[derive(Clone, Copy, Debug, PartialEq, Eq)]
+pub struct Decided {
+    pub refusal: Refusal,
+    pub answer: u32,
+    pub rounds: u32,
+}
+
+fn refusal(numbers: &[u32]) -> Refusal {
+    Refusal { number: numbers[0], line: numbers[1], place: numbers[2] }
+}
+
+pub fn check(file: &[u8]) -> Checked {
+    let mut n = [0u32; 6];
+    // SAFETY: each pointer comes with the length of the slice that it points to.
+    unsafe { snowdell_check(file.as_ptr(), file.len(), n.as_mut_ptr(), n.len()) };
+    Checked { refusal: refusal(&n), subjects: n[3], objects: n[4], actions: n[5] }
+}
+
+/// Bytes 0 to N - 1 of `result` become the answers where the file is accepted.
+pub fn compose(file: &[u8], result: &mut [u8], memory: &mut [u8]) -> Composed {
+    let mut n = [0u32; 7];
+    // SAFETY: each pointer comes with the length of the slice that it points to; the slices do not overlap.
+    unsafe {
+        snowdell_compose(
+            file.as_ptr(),
+            file.len(),
+            result.as_mut_ptr(),
+            result.len(),
+            memory.as_mut_ptr(),
+            memory.len(),
+            n.as_mut_ptr(),
+            n.len(),
+        )
+    };
+    Composed { refusal: refusal(&n), accesses: n[3], permits: n[4], undecided: n[5], rounds: n[6] }
+}
+
+pub fn decide(file: &[u8], subject: &[u8], object: &[u8], action: &[u8], memory: &mut [u8]) -> Decided {
+    let mut n = [0u32; 5];
+    // SAFETY: each pointer comes with the length of the slice that it points to; the slices do not overlap.
+    unsafe {
+        snowdell_decide(
+            file.as_ptr(),
+            file.len(),
+            subject.as_ptr(),
+            subject.len(),
+            object.as_ptr(),
+            object.len(),
+            action.as_ptr(),
+            action.len(),
+            memory.as_mut_ptr(),
+            memory.len(),
+            n.as_mut_ptr(),
+            n.len(),
+        )
+    };
+    Decided { refusal: refusal(&n), answer: n[3], rounds: n[4] }
+}
