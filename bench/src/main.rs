@@ -1,0 +1,132 @@
+//! Times the engine beside a plain Rust program that tries every instance in every round, and beside the
+//! separate evaluator: the same files, one run, all optimised. Each figure is the least of several turns,
+//! taken by turns, so that the machine's other work meets all alike.
+//!
+//!   bench [TURNS] FILE..      (TURNS 5 unless given)
+
+mod plain;
+
+use std::time::{Duration, Instant};
+
+/// The least time of one call, over some turns; short calls are repeated.
+struct Timed {
+    least: Duration,
+}
+
+impl Timed {
+    fn new() -> Timed {
+        Timed { least: Duration::MAX }
+    }
+
+    fn turn(&mut self, mut call: impl FnMut()) {
+        let start = Instant::now();
+        call();
+        let mut took = start.elapsed();
+        if took < Duration::from_millis(5) {
+            let times = (Duration::from_millis(20).as_nanos() / took.as_nanos().max(1)).clamp(1, 10_000) as u32;
+            let start = Instant::now();
+            for _ in 0..times {
+                call();
+            }
+            took = start.elapsed() / times;
+        }
+        self.least = self.least.min(took);
+    }
+
+    fn micros(&self) -> f64 {
+        self.least.as_nanos() as f64 / 1000.0
+    }
+}
+
+/// A file of 32,768 bytes or a little less with as many G lines as fit.
+fn many_grants() -> Vec<u8> {
+    let mut file = Vec::new();
+    for i in 0..16 {
+        file.extend(format!("S,s{i},-\nO,o{i},-\n").bytes());
+    }
+    let mut lines: Vec<Vec<u8>> = file.split(|b| *b == b'\n').filter(|l| !l.is_empty()).map(<[u8]>::to_vec).collect();
+    lines.sort_by_key(|l| l[0] != b'S');
+    let mut file: Vec<u8> = lines.join(&b'\n');
+    file.extend(b"\nA,r,-\nT,t,here\n");
+    let end = b"E,0,t\n";
+    let mut i = 0;
+    loop {
+        let line = format!("G,t,s{},o{},r\n", i / 16 % 16, i % 16);
+        if file.len() + line.len() + end.len() > 32768 {
+            break;
+        }
+        file.extend(line.bytes());
+        i += 1;
+    }
+    file.extend(end);
+    file
+}
+
+fn row(name: &str, what: &str, engine: &Timed, others: &[(&str, &Timed)]) {
+    print!("| {name} | {what} | {:.1} |", engine.micros());
+    for (_, other) in others {
+        print!(" {:.1} | {:.2} |", other.micros(), engine.micros() / other.micros());
+    }
+    println!();
+}
+
+fn main() {
+    let mut words: Vec<String> = std::env::args().skip(1).collect();
+    let turns: u32 = match words.first().and_then(|w| w.parse().ok()) {
+        Some(turns) => {
+            words.remove(0);
+            turns
+        }
+        None => 5,
+    };
+    let mut result = vec![0u8; snowdell::RESULT];
+    let mut memory = vec![0u8; snowdell::MEMORY];
+
+    println!("Times in microseconds, the least of {turns} turns; ratio = engine / other.\n");
+    println!("| file | call | engine | evaluator | ratio |");
+    println!("|---|---|---|---|---|");
+    let mut files = vec![("as many G lines as fit".to_string(), many_grants())];
+    for word in &words {
+        let name = word.rsplit('/').next().unwrap_or(word).to_string();
+        files.push((name, std::fs::read(word).expect("a policy")));
+    }
+    for (name, file) in &files {
+        let (mut engine, mut other) = (Timed::new(), Timed::new());
+        for _ in 0..turns {
+            engine.turn(|| {
+                std::hint::black_box(snowdell::check(std::hint::black_box(file)));
+            });
+            other.turn(|| {
+                let _ = std::hint::black_box(evaluator::check(std::hint::black_box(file)));
+            });
+        }
+        row(name, "Check", &engine, &[("evaluator", &other)]);
+    }
+
+    println!("\n| file | call | engine | plain program | ratio | evaluator | ratio |");
+    println!("|---|---|---|---|---|---|---|");
+    for (name, file) in &files {
+        let Ok(policy) = evaluator::reader::read(file) else { continue };
+        let (mut engine, mut plain, mut other, mut asked) = (Timed::new(), Timed::new(), Timed::new(), Timed::new());
+        let mut said = snowdell::compose(file, &mut result, &mut memory);
+        let (answers, rounds) = plain::Plain::new(&policy).compose();
+        assert_eq!((said.rounds as usize, &result[..answers.len()]), (rounds, &answers[..]), "{name}");
+        let names: Vec<&[u8]> = policy.members.iter().map(|m| &m.names[m.names.len() - 1][..]).collect();
+        for _ in 0..turns {
+            engine.turn(|| said = snowdell::compose(std::hint::black_box(file), &mut result, &mut memory));
+            plain.turn(|| {
+                // The plain program reads the file by the evaluator, as the engine reads it too.
+                let policy = evaluator::reader::read(std::hint::black_box(file)).expect("an accepted file");
+                std::hint::black_box(plain::Plain::new(&policy).compose());
+            });
+            other.turn(|| {
+                let _ = std::hint::black_box(evaluator::compose(std::hint::black_box(file)));
+            });
+            asked.turn(|| {
+                std::hint::black_box(snowdell::decide(file, names[0], names[1], names[2], &mut memory));
+            });
+        }
+        row(name, "Compose", &engine, &[("plain", &plain), ("evaluator", &other)]);
+        row(name, "Decide", &asked, &[("plain", &plain), ("evaluator", &other)]);
+    }
+}
