@@ -7,4 +7,5 @@ pub mod Longest
 pub mod Reading
 pub mod Names
 pub mod Leftmost
+pub mod Lookup
 mod Examples
