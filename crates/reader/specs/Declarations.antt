@@ -7,7 +7,7 @@ use lib.ListN.{length, getD, set}
 use Rattle.algebra.specs.Sort.{Sort, subject, object, action}
 use Rattle.algebra.specs.Algebra.{Tree}
 use Rattle.algebra.specs.Policy.{Term, member, variable, Triple, Atom, grant, order, mark, Rule, Scope, number}
-use Rattle.reader.specs.Text.{same}
+use Rattle.grammar.specs.Lookup.{same, position, place}
 use Rattle.reader.specs.Line.{Spelled, named, variable as variableWord, Body, grantBody, orderBody, hasBody, Line, memberLine, predicateLine, tableLine, grantLine, ruleLine, bodyLine, expressionLine}
 
 -- a member and the number of its parent; members are numbered from 0 in file order, each sort by itself
@@ -48,23 +48,6 @@ pub record Declared : Type 0 where
   pub goal : Option Goal
 
 -- ---- looking up
-
--- the first element that passes a test, counted from i
-unfoldable pub positionFrom : {A : Type 0} → ℕ → (A → Bool) → List A → Option ℕ
-positionFrom i p [] = none
-positionFrom i p (x ∷ xs) = elim (p x) [ true ↦ some i | false ↦ positionFrom (suc i) p xs ]
-
-unfoldable pub position : {A : Type 0} → (A → Bool) → List A → Option ℕ
-position p l = positionFrom 0 p l
-
-unfoldable pub found : {A : Type 0} → Option A → Bool
-found none = false
-found (some x) = true
-
--- the number that was found
-unfoldable pub place : Option ℕ → ℕ
-place none = 0
-place (some i) = i
 
 unfoldable pub sameSort : Sort → Sort → Bool
 sameSort subject subject = true
