@@ -1,0 +1,4 @@
+pub mod Numbers
+pub mod Verdicts
+pub mod Grants
+pub mod Found
