@@ -1,3 +1,6 @@
+pub mod Parts
+pub mod Cuts
+pub mod Forms
 pub mod Rows
 pub mod Lookup
 pub mod Later

@@ -10,7 +10,7 @@ use borrow.Author.Tests.{eq-eqb, eqb-true}
 use lib.Dec.{eqb}
 use Rattle.algebra.proofs.Bool.{and-left, and-right}
 use Rattle.reader.specs.Text.{same}
-use Rattle.reader.specs.Declared.{positionFrom, position, found, place}
+use Rattle.reader.specs.Declarations.{positionFrom, position, found, place}
 
 pub same-refl : (t : List ℕ) → same t t ≡ true
 unfolding same

@@ -11,7 +11,7 @@ use Rattle.algebra.specs.Lists.{all}
 use Rattle.algebra.proofs.Bool.{and-left, and-right}
 use Rattle.reader.specs.Text.{lines}
 use Rattle.reader.specs.Line.{Line, memberLine, predicateLine, tableLine, grantLine, ruleLine, bodyLine, expressionLine, parse}
-use Rattle.reader.specs.Declared.{Declared, Goal, start}
+use Rattle.reader.specs.Declarations.{Declared, Goal, start}
 use Rattle.reader.specs.Rows.{Row, row, if, Verdict, good, refuse, first, rows, outOfOrder, badCounts, tooMany, declaredAlready, notDeclared, grantsAway, twoSorts, expressionRows}
 use Rattle.reader.specs.File.{Accepted, Outcome, refused, accepted, isFile, ended, judge, after, add, readLines, readFile}
 

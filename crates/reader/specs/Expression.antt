@@ -9,7 +9,7 @@ use Rattle.grammar.specs.Expression as Grammar
 use Rattle.grammar.specs.Expression.{Joiner, plus-sign, and-sign, minus-sign, Exp, one, more, Fac, plain, scoped, closed-by, Pri, table-name, bracket}
 use Rattle.grammar.specs.Names as Names
 use Rattle.grammar.specs.Names.{Kind, rule-set}
-use Rattle.reader.specs.Declared.{Declared, found, place, memberAt, predicateAt, tableAt, setAt}
+use Rattle.reader.specs.Declarations.{Declared, found, place, memberAt, predicateAt, tableAt, setAt}
 
 -- the number of a name that is declared as this kind
 unfoldable pub lookup : Declared → Kind → List ℕ → Option ℕ

@@ -1,6 +1,7 @@
 pub mod Text
 pub mod Line
-pub mod Declared
+pub mod Parsed
+pub mod Declarations
 pub mod Expression
 pub mod Rows
 pub mod File

@@ -12,7 +12,7 @@ use Rattle.algebra.specs.Policy.{Term, member, variable, Triple, Atom, grant, o
 use Rattle.grammar.specs.Machine.{Reading, read, wrong, reading}
 use Rattle.grammar.specs.Names.{missing}
 use Rattle.reader.specs.Line.{Spelled, named, variable as variableWord, Body, grantBody, orderBody, hasBody, Line, memberLine, predicateLine, tableLine, grantLine, ruleLine, bodyLine, expressionLine}
-use Rattle.reader.specs.Declared.{Declared, Members, found, place, sameSort, count, memberAt, predicateAt, tableAt, setAt, Table, noTable, tripleOf, atomOf, groupOf}
+use Rattle.reader.specs.Declarations.{Declared, Members, found, place, sameSort, count, memberAt, predicateAt, tableAt, setAt, Table, noTable, tripleOf, atomOf, groupOf}
 use Rattle.reader.specs.Expression.{lookup, isDeclared, treeOf}
 
 -- ---- 4: group out of order; B without a rule; a line after E

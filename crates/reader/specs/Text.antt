@@ -34,10 +34,14 @@ lines f = pieces [] 10 f
 unfoldable pub fields : List ℕ → List (List ℕ)
 fields l = pieces ([] ∷ []) (code ",") l
 
+-- what stands before the first of a byte: all where there is none
+unfoldable pub before : ℕ → List ℕ → List ℕ
+before s [] = []
+before s (b ∷ bs) = cond (eqb b s) [] (b ∷ before s bs)
+
 -- what stands before the first comma of a line, and what follows it
 unfoldable pub beforeComma : List ℕ → List ℕ
-beforeComma [] = []
-beforeComma (b ∷ bs) = cond (eqb b (code ",")) [] (b ∷ beforeComma bs)
+beforeComma l = before (code ",") l
 
 unfoldable pub afterComma : List ℕ → Option (List ℕ)
 afterComma [] = none
