@@ -8,4 +8,6 @@ pub mod Reading
 pub mod Names
 pub mod Leftmost
 pub mod Lookup
+mod Words
+mod Scopes
 mod Examples
