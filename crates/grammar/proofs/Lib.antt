@@ -10,4 +10,5 @@ pub mod Leftmost
 pub mod Lookup
 mod Words
 mod Scopes
+mod Programs
 mod Examples

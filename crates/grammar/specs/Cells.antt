@@ -57,25 +57,25 @@ abbrev pub most-cells : ℕ
 most-cells = 193
 
 -- a count that stops at a bound
-unfoldable pub counted : ℕ → ℕ → ℕ
-counted most n = cond (ltb n most) (n + 1) n
+unfoldable pub countedTo : ℕ → ℕ → ℕ
+countedTo most n = cond (ltb n most) (n + 1) n
 
 abbrev pub most-count : ℕ
 most-count = 100000
 
 -- every step but a table's is an operator
 unfoldable pub operatorsAfter : ℕ → ℕ → ℕ
-operatorsAfter n kind = cond (eqb kind 0) n (counted most-count n)
+operatorsAfter n kind = cond (eqb kind 0) n (countedTo most-count n)
 
 -- how many sets are held after a step
 unfoldable pub heightAfter : ℕ → ℕ → ℕ
-heightAfter h kind = cond (eqb kind 0) (counted most-count h) (cond (ltb kind 4) (h - 1) (cond (eqb kind 4) (h - 2) h))
+heightAfter h kind = cond (eqb kind 0) (countedTo most-count h) (cond (ltb kind 4) (h - 1) (cond (eqb kind 4) (h - 2) h))
 
 unfoldable pub stored : Program → Cell → Program
 stored p c =
     record {
-      cells = set (p .cells) (p .used) c;
-      used = counted most-cells (p .used);
+      cells = cond (ltb (p .used) most-cells) (set (p .cells) (p .used) c) (p .cells);
+      used = countedTo most-cells (p .used);
       operators = operatorsAfter (p .operators) (c .kind);
       height = heightAfter (p .height) (c .kind);
       held = max (p .held) (heightAfter (p .height) (c .kind));
