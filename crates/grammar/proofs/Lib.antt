@@ -7,4 +7,8 @@ pub mod Longest
 pub mod Reading
 pub mod Names
 pub mod Leftmost
+pub mod Lookup
+mod Words
+mod Scopes
+mod Programs
 mod Examples
