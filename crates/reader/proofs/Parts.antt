@@ -14,7 +14,8 @@ use lib.Dec.{eqb, leb}
 use borrow.Author.Tests.{eq-eqb, ne-eqb, le-leb, lt-leb, leb-true}
 use Rattle.algebra.proofs.Bool.{and-left, and-right}
 use Rattle.grammar.specs.Name.{isLetter, isNameByte, areNameBytes, isName, noSort, sortByte, sortWord}
-use Rattle.reader.specs.Text.{same, isDigit, digits, isNumber, spells}
+use Rattle.grammar.specs.Lookup.{same}
+use Rattle.reader.specs.Text.{isDigit, digits, isNumber, spells}
 use Rattle.reader.specs.Line.{letterOf}
 use Rattle.reader.specs.Parsed.{textOf, Within, Named}
 use Rattle.reader.specs.declared.text.Part.{Part}

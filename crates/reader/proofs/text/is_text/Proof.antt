@@ -1,8 +1,8 @@
 use borrow.Author.Needs.{needs}
 use native.Mathlib.Omega.{arith}
 use native.Mathlib.Nat.{add-zero}
+use Rattle.grammar.specs.Lookup.{same}
 use Rattle.reader.proofs.Parts.{same-lengths, word-run, word-stop, word-end}
-use Rattle.reader.specs.Text.{same}
 use lib.ListN.{length, drop}
 use lib.Seq.{slice, length-slice}
 use mathlib.Core.Path.{_≡_, sym, _∙_}
