@@ -8,4 +8,7 @@ pub mod Reading
 pub mod Names
 pub mod Leftmost
 pub mod Lookup
+mod Words
+mod Scopes
+mod Programs
 mod Examples

@@ -1,3 +1,7 @@
+pub mod Parts
+pub mod Cuts
+pub mod Forms
+pub mod Standing
 pub mod Rows
 pub mod Lookup
 pub mod Later

@@ -4,5 +4,6 @@ pub mod Parsed
 pub mod Declarations
 pub mod Expression
 pub mod Rows
+pub mod State
 pub mod File
 pub mod Later
