@@ -2,43 +2,23 @@
 use mathlib.Core.Path.{_≡_}
 use mathlib.Core.Bool.{Bool, true, false}
 use mathlib.Core.List.{List, [], _∷_, map}
-use mathlib.Core.Option.{Option, none, some}
 use Prim.Native.Nat.{ℕ, zero, suc, _+_, _*_, _/_, _%_, _≤_, _<_}
 use lib.Dec.{eqb, ltb}
-use lib.ListN.{length, getD, take}
+use lib.ListN.{length, getD, set, take}
 use Rattle.algebra.specs.Sort.{Sort, subject, object, action}
 use Rattle.algebra.specs.Lists.{any, gather, only, upto}
-use Rattle.algebra.specs.Policy.{Rule, useOf, Use, unused, of}
 use Rattle.algebra.specs.Stored.{storedRule}
-use Rattle.algebra.specs.declared.StoredRule.{StoredRule}
 use Rattle.grammar.specs.Names.{Kind}
-use Rattle.grammar.specs.Lookup.{Entry, entries, Sound, sortNumber, memberBase, memberCount, predicateBase, tableBase, setBase, lookupIn}
+use Rattle.grammar.specs.Lookup.{Sound, memberCount, tableBase, lookupIn}
 use Rattle.grammar.specs.declared.NameCounts.{NameCounts}
-use Rattle.reader.specs.Declarations.{Member, Predicate, Table, Declared, membersOf, count, noTable}
+use Rattle.reader.specs.Declarations.{Predicate, Declared, count, noTable}
+use Rattle.reader.specs.State.{Names}
 use Rattle.reader.specs.Expression.{lookup}
-use Rattle.reader.specs.Rows.{Verdict, good, refuse}
 use Rattle.state.specs.declared.State.{State}
 
 abbrev pub flag : Bool → ℕ
 flag true = 1
 flag false = 0
-
--- ---- entries of the tables of names
-
--- a member's tag is 0 for no parent, or the parent's number and 1
-abbrev pub parentOfTag : ℕ → Option ℕ
-parentOfTag zero = none
-parentOfTag (suc p) = some p
-
-abbrev pub memberOfEntry : Entry → Member
-memberOfEntry e = record { name = e .name; parent = parentOfTag (e .tag) }
-
--- a predicate's tag is its sort, and a table's whether it is here
-abbrev pub predicateEntry : Predicate → Entry
-predicateEntry p = record { tag = sortNumber (p .sort); name = p .name }
-
-abbrev pub tableEntry : Table → Entry
-tableEntry t = record { tag = flag (t .here); name = t .name }
 
 -- ---- grants, two bytes each, the low one first, of 4096 × table + access
 
@@ -67,7 +47,61 @@ pub record NamesStand (f starts ends tags : List ℕ) (c : NameCounts) (d : Decl
   pub sets-many : c .sets ≡ length (d .sets)
   pub here : (i : ℕ) → i < length (d .tables) → getD tags (tableBase + i) 0 ≡ flag (getD (d .tables) i noTable .here)
 
--- the number of a refusal, 0 where the line is good
-abbrev pub verdictOf : ℕ → Verdict
-verdictOf zero = good
-verdictOf (suc n) = refuse (suc n) 0
+-- ---- the state
+
+-- the members that predicate p lists
+unfoldable pub listedAt : List Predicate → ℕ → List ℕ
+listedAt ps p = getD (map (λ (q : Predicate). q .listed) ps) p []
+
+pub record Sizes (st : State) : Type 0 where
+  pub starts : length (st .starts) ≡ 192
+  pub ends : length (st .ends) ≡ 192
+  pub tags : length (st .tags) ≡ 192
+  pub marks : length (st .marks) ≡ 1024
+  pub rules : length (st .rules) ≡ 64
+
+-- the state, with the grants in the lent memory w, stands for what is declared, but for the expression
+pub record Stands (f w : List ℕ) (st : State) (d : Declared) : Type 0 where
+  pub is-group : st .group ≡ d .group
+  pub names : Names f (st .starts) (st .ends) (st .tags) (st .counts) d
+  pub sound : Sound f (st .starts) (st .ends) (st .tags) (st .counts)
+  pub few : Few (st .counts)
+  pub sizes : Sizes st
+  pub counted : 3 ≤ st .group → st .counts .subjects * st .counts .objects * st .counts .actions ≤ 4096
+  pub marks : (p x : ℕ) → p < 16 → x < 64 → getD (st .marks) (p * 64 + x) 0 ≡ flag (any (eqb x) (listedAt (d .predicates) p))
+  pub grants : (i : ℕ) → i < length (d .tables) → grantsOf i (st .grants) w ≡ getD (d .tables) i noTable .grants
+  pub rules : d .rules ≡ map storedRule (take (st .many) (st .rules))
+  pub few-rules : st .many ≤ 64
+  -- all T lines come before all G lines
+  pub no-grants : st .group < 5 → st .grants ≡ 0
+
+-- the state with the name of entry i
+unfoldable pub placedOf : State → ℕ → ℕ → ℕ → ℕ → NameCounts → ℕ → State
+placedOf st i from to tag c g =
+    record {
+      group = g;
+      counts = c;
+      starts = set (st .starts) i from;
+      ends = set (st .ends) i to;
+      tags = set (st .tags) i tag;
+      marks = st .marks;
+      rules = st .rules;
+      many = st .many;
+      sorts = st .sorts;
+      grants = st .grants;
+    }
+
+-- the counts with one name more
+abbrev pub moreMembers : NameCounts → Sort → NameCounts
+moreMembers c subject = record { subjects = c .subjects + 1; objects = c .objects; actions = c .actions; predicates = c .predicates; tables = c .tables; sets = c .sets }
+moreMembers c object = record { subjects = c .subjects; objects = c .objects + 1; actions = c .actions; predicates = c .predicates; tables = c .tables; sets = c .sets }
+moreMembers c action = record { subjects = c .subjects; objects = c .objects; actions = c .actions + 1; predicates = c .predicates; tables = c .tables; sets = c .sets }
+
+abbrev pub morePredicates : NameCounts → NameCounts
+morePredicates c = record { subjects = c .subjects; objects = c .objects; actions = c .actions; predicates = c .predicates + 1; tables = c .tables; sets = c .sets }
+
+abbrev pub moreTables : NameCounts → NameCounts
+moreTables c = record { subjects = c .subjects; objects = c .objects; actions = c .actions; predicates = c .predicates; tables = c .tables + 1; sets = c .sets }
+
+abbrev pub moreSets : NameCounts → NameCounts
+moreSets c = record { subjects = c .subjects; objects = c .objects; actions = c .actions; predicates = c .predicates; tables = c .tables; sets = c .sets + 1 }
