@@ -23,7 +23,7 @@ use Rattle.state.specs.Standing.{grantsOf, Few, Sizes, Stands, placedOf,
 use Rattle.state.specs.declared.State.{State}
 use Rattle.state.proofs.Entries.{entries-keep, entries-more, group-keep, group-more}
 
-map-snoc : {A B : Type 0} (h : A → B) (l : List A) (x : A) → map h (l ++ (x ∷ [])) ≡ map h l ++ (h x ∷ [])
+pub map-snoc : {A B : Type 0} (h : A → B) (l : List A) (x : A) → map h (l ++ (x ∷ [])) ≡ map h l ++ (h x ∷ [])
 map-snoc h [] x = refl
 map-snoc h (y ∷ l) x = ap (λ r. h y ∷ r) (map-snoc h l x)
 

@@ -5,3 +5,4 @@ pub mod Found
 pub mod Names
 pub mod Entries
 pub mod Adding
+pub mod Marks

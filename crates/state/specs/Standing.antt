@@ -105,3 +105,39 @@ moreTables c = record { subjects = c .subjects; objects = c .objects; actions = 
 
 abbrev pub moreSets : NameCounts → NameCounts
 moreSets c = record { subjects = c .subjects; objects = c .objects; actions = c .actions; predicates = c .predicates; tables = c .tables; sets = c .sets + 1 }
+
+-- the state with a mark of member x by predicate p
+unfoldable pub markedOf : State → ℕ → ℕ → State
+markedOf st p x =
+    record {
+      group = 3;
+      counts = st .counts;
+      starts = st .starts;
+      ends = st .ends;
+      tags = st .tags;
+      marks = set (st .marks) (p * 64 + x) 1;
+      rules = st .rules;
+      many = st .many;
+      sorts = st .sorts;
+      grants = st .grants;
+    }
+
+-- the state with one grant more in the lent memory
+unfoldable pub grantedOf : State → State
+grantedOf st =
+    record {
+      group = 5;
+      counts = st .counts;
+      starts = st .starts;
+      ends = st .ends;
+      tags = st .tags;
+      marks = st .marks;
+      rules = st .rules;
+      many = st .many;
+      sorts = st .sorts;
+      grants = st .grants + 1;
+    }
+
+-- grant i in the lent memory
+unfoldable pub grantWritten : List ℕ → ℕ → ℕ → List ℕ
+grantWritten w i g = set (set w (2 * i) (g % 256)) (2 * i + 1) (g / 256)
