@@ -123,10 +123,13 @@ numbered d (ruleLine r s o a) = refl
 numbered d (bodyLine b) = refl
 numbered d (expressionLine n t) = refl
 
+pub rows-number : (d : Declared) (l : Line) (k p : ℕ) → first (rows d l) ≡ refuse k p → 2 ≤ k
+rows-number d l k p e = first-number (rows d l) k p (numbered d l) e
+
 judge-number : (d : Declared) (o : Option Line) (k p : ℕ) → judge d o ≡ refuse k p → 2 ≤ k
 unfolding judge
 judge-number d none k p e = let y : 3 ≡ k = cc in omega arith
-judge-number d (some l) k p e = first-number (rows d l) k p (numbered d l) e
+judge-number d (some l) k p e = rows-number d l k p e
 
 ended-number : (d : Declared) (g : Option Goal) (k l p : ℕ) → ended d g ≡ refused k l p → 2 ≤ k
 unfolding ended

@@ -167,7 +167,6 @@ module _ (f w : List ℕ) (st : State) (d : Declared) (S : Stands f w st d) (σ 
       x = record { name = slice from to f; parent = parentOf (d .members) σ p }
 
       at-same : map memberEntry (membersOf (withMember σ x (d .members)) σ) ≡ entries f (set (st .starts) i from) (set (st .ends) i to) (set (st .tags) i tag) (memberBase σ) (memberCount (moreMembers c σ) σ)
-
       at-same =
           ap (map memberEntry) (with-same σ x (d .members)) ∙ map-snoc memberEntry (membersOf (d .members) σ) x
           ∙ ap₂ (λ (r : List Entry) (e : Entry). r ++ (e ∷ [])) (S .names .members σ) (ap (λ (t : ℕ). record { tag = t; name = slice from to f }) is-tag)

@@ -6,3 +6,5 @@ pub mod Names
 pub mod Entries
 pub mod Adding
 pub mod Marks
+pub mod Granting
+pub mod Lines
