@@ -19,17 +19,19 @@ use Rattle.grammar.specs.Lookup.{Entry, entryAt, entries, found, memberBase, me
 use Rattle.grammar.specs.declared.NameCounts.{NameCounts}
 use Rattle.reader.specs.Line.{Line, memberLine, tableLine}
 use Rattle.reader.specs.Declarations.{Table, Declared, noTable, memberAt, count, sortGroup, groupOf, parentOf}
-use Rattle.reader.specs.Rows.{good, refuse, first, rows, most, isMember, isParent, notDeclared, outOfOrder}
+use Rattle.reader.specs.Rows.{good, refuse, first, rows, most, isMember, isParent, notDeclared, outOfOrder, badCounts}
 use Rattle.reader.specs.Expression.{lookup}
 use Rattle.reader.specs.File.{add}
 use Rattle.reader.specs.State.{parentTag, tableEntry, Names}
 use Rattle.reader.proofs.Rows.{rows-number, Good, good-rows}
 use Rattle.reader.proofs.Standing.{lookup-is, count-is, predicates-are, tables-are, sets-are}
 use Rattle.state.specs.Standing.{flag, Few, NamesStand, Sizes, Stands, placedOf, moreMembers, moreTables}
-use Rattle.state.specs.Judged.{lateOf, MemberJudged, member-refused, member-passes, TableJudged, table-refused, table-passes, LineJudged, line-refused, line-good}
+use Rattle.state.specs.Judged.{lateOf, badCountsOf, MemberJudged, member-refused, member-passes, TableJudged, table-refused, table-passes, LineJudged, line-refused, line-good}
 use Rattle.state.specs.declared.State.{State}
 use Rattle.state.specs.declared.Next.{Next}
 use Rattle.state.proofs.Names.{sort-group, sort-zero, sort-one, sort-other}
+use Rattle.state.proofs.Verdicts.{counts-are as counts-are-of}
+use Rattle.state.proofs.Found.{few-accesses}
 use Rattle.state.proofs.Adding.{member-added, table-added}
 
 -- ---- the arrays are enough to look names up
@@ -166,3 +168,54 @@ member-line-as f w st d S s from to low order in-file h p tag t e b k i c st′ 
     subst (λ (x : State). LineJudged f w d (memberLine (storedSort s) (slice from to f) p) (record { number = 0; state = x }))
     (sym (es ∙ ap₂ (λ (j : ℕ) (n : NameCounts). placedOf st j from to tag n s) (ei ∙ ap₂ _+_ eb ek) ec))
     (member-line f w st d S s from to low order in-file h p tag t e)
+
+-- ---- a table's line, with the state after it
+
+pub table-no : (d : Declared) (t : List ℕ) (h : Bool) (k : ℕ) → TableJudged d t h k → (k ≡ 0 → ⊥) → first (rows d (tableLine t h)) ≡ refuse k 0
+table-no d t h k (table-refused e) ne = e
+table-no d t h k (table-passes e r) ne = absurd (ne refl)
+
+pub table-yes : (d : Declared) (t : List ℕ) (h : Bool) (k : ℕ) → TableJudged d t h k → k ≡ 0 → (first (rows d (tableLine t h)) ≡ good) × (length (d .tables) < 16)
+table-yes d t h k (table-refused e) z = absurd (let r = rows-number d (tableLine t h) k 0 e in omega arith)
+table-yes d t h k (table-passes e r) z = (e, r)
+
+-- after a good line of a later group the accesses are few
+few-after : (f w : List ℕ) (st : State) (d : Declared) → Stands f w st d → (l : Line) → first (rows d l) ≡ good → 3 ≤ groupOf l
+    → st .counts .subjects * st .counts .objects * st .counts .actions ≤ 4096
+few-after f w st d S l e h =
+    few-accesses (st .group) (groupOf l) (st .counts .subjects) (st .counts .objects) (st .counts .actions) h
+    (sym (rows-8 (S .is-group)) ∙ good-rows d l e .row-8) (S .counted)
+  where
+    rows-8 : st .group ≡ d .group → badCounts d l ≡ badCountsOf (st .group) (groupOf l) (st .counts .subjects) (st .counts .objects) (st .counts .actions)
+    rows-8 g =
+        counts-are-of d l (groupOf l) (st .counts .subjects) (st .counts .objects) (st .counts .actions) refl
+        (sym (count-is f (st .starts) (st .ends) (st .tags) (st .counts) d (S .names) subject))
+        (sym (count-is f (st .starts) (st .ends) (st .tags) (st .counts) d (S .names) object))
+        (sym (count-is f (st .starts) (st .ends) (st .tags) (st .counts) d (S .names) action))
+        ∙ ap (λ (x : ℕ). badCountsOf x (groupOf l) (st .counts .subjects) (st .counts .objects) (st .counts .actions)) (sym g)
+
+pub table-line-as : (f w : List ℕ) (st : State) (d : Declared) (S : Stands f w st d) (from to : ℕ) (h : Bool) → from ≤ to → to ≤ length f
+    → (first (rows d (tableLine (slice from to f) h)) ≡ good) × (length (d .tables) < 16)
+    → (k i tag : ℕ) (c : NameCounts) (st′ : State) → k ≡ st .counts .tables → i ≡ 160 + k → tag ≡ flag h → c ≡ moreTables (st .counts) → st′ ≡ placedOf st i from to tag c 4
+    → LineJudged f w d (tableLine (slice from to f) h) (record { number = 0; state = st′ })
+unfolding groupOf tableEntry
+table-line-as f w st d S from to h order in-file r k i tag c st′ ek ei et ec es =
+    subst (λ (x : State). LineJudged f w d (tableLine (slice from to f) h) (record { number = 0; state = x }))
+    (sym (es ∙ ap₂ (λ (j : ℕ) (n : NameCounts). placedOf st j from to tag n 4) (ei ∙ ap (λ (x : ℕ). 160 + x) ek) ec))
+    (line-good (r .0) (table-added f w st d S from to h tag order in-file (tag-is h tag et) room
+    (few-after f w st d S (tableLine (slice from to f) h) (r .0) (omega arith)) early))
+  where
+    tag-is : (h : Bool) (tag : ℕ) → tag ≡ flag h → tableEntry (record { name = slice from to f; here = h; grants = [] }) .tag ≡ tag
+    tag-is true tag e = sym e
+    tag-is false tag e = sym e
+
+    room : st .counts .tables < 16
+    room = let n = tables-are f (st .starts) (st .ends) (st .tags) (st .counts) d (S .names) in let q = r .1 in omega arith
+
+    early : st .group < 5
+    early = let e = no-earlier d (tableLine (slice from to f) h) (good-rows d (tableLine (slice from to f) h) (r .0) .row-4) in let g = S .is-group in omega arith
+
+pub member-small : (c : NameCounts) → Few c → (σ : Sort) (i : ℕ) → i < memberCount c σ → i < 64
+member-small c few subject i h = let k = few .subjects in omega arith
+member-small c few object i h = let k = few .objects in omega arith
+member-small c few action i h = let k = few .actions in omega arith
