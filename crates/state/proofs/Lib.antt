@@ -2,3 +2,4 @@ pub mod Numbers
 pub mod Verdicts
 pub mod Grants
 pub mod Found
+pub mod Sorts
