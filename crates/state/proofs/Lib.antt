@@ -3,3 +3,5 @@ pub mod Verdicts
 pub mod Grants
 pub mod Found
 pub mod Sorts
+pub mod Terms
+pub mod RuleTests
