@@ -5,3 +5,5 @@ pub mod Found
 pub mod Sorts
 pub mod Terms
 pub mod RuleTests
+pub mod Bodies
+pub mod Heads
