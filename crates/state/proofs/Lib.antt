@@ -7,3 +7,4 @@ pub mod Terms
 pub mod RuleTests
 pub mod Bodies
 pub mod Heads
+pub mod Added
