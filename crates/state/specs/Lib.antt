@@ -1,2 +1,4 @@
 pub mod Standing
 pub mod Judged
+pub mod Sorts
+pub mod RuleJudged
