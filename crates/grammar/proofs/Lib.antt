@@ -11,4 +11,6 @@ pub mod Lookup
 mod Words
 mod Scopes
 mod Programs
+mod SuffixWays
+mod ReaderWays
 mod Examples
