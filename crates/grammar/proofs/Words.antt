@@ -18,7 +18,7 @@ use Rattle.grammar.specs.declared.Parsed.the-variants.{Good, Bad}
 use Rattle.grammar.proofs.Machine.{in-text, run-go, run-none, no-byte, long, grown}
 
 -- a test of a byte, by what `peek` and the test ensure
-pub seen : (f : ℕ → Bool) {p x : ℕ} {r b : Bool} → p ≡ x → r ≡ f p → r ≡ b → f x ≡ b
+pub seen : {A : Type 0} (f : ℕ → A) {p x : ℕ} {r b : A} → p ≡ x → r ≡ f p → r ≡ b → f x ≡ b
 seen f e q h = ap f (sym e) ∙ sym q ∙ h
 
 pub tested : {r b c : Bool} → r ≡ b → r ≡ c → b ≡ c
