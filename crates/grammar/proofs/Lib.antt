@@ -13,4 +13,5 @@ mod Scopes
 mod Programs
 mod SuffixWays
 mod ReaderWays
+mod Emits
 mod Examples
