@@ -30,12 +30,12 @@ both-false : (x y : Bool) → (x || y) ≡ false → (x ≡ false) × (y ≡ fal
 both-false true y e = absurd (false≢true (sym e))
 both-false false y e = (refl, e)
 
-cond-same : (t : Bool) → cond {A = Option State} t none none ≡ none
+pub cond-same : (t : Bool) → cond {A = Option State} t none none ≡ none
 cond-same true = refl
 cond-same false = refl
 
 -- after a factor that no suffix and no sign follows
-delims : (a : ℕ) (ks : List Frame) (l : Left) (f : Fac) (b : ℕ) → suffixByte b ≡ false → signCode b ≡ 0 → onward a ks l f b ≡ delimited a ks (join l f) b
+pub delims : (a : ℕ) (ks : List Frame) (l : Left) (f : Fac) (b : ℕ) → suffixByte b ≡ false → signCode b ≡ 0 → onward a ks l f b ≡ delimited a ks (join l f) b
 unfolding onward joined suffixByte signCode
 delims a ks l f b s o = go (eqb b 43) (eqb b 38) (eqb b 45) refl refl refl o
   where
