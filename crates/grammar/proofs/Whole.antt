@@ -3,19 +3,18 @@ use mathlib.Core.Path.{_≡_, refl, sym, ap, subst, _∙_}
 use mathlib.Core.Bool.{cond}
 use mathlib.Core.List.{List, []}
 use mathlib.Core.Option.{Option, none}
-use Prim.Native.Nat.{ℕ, _+_, _-_, _≤_, _<_}
+use Prim.Native.Nat.{ℕ, _≤_}
 use native.Mathlib.Omega.{arith}
 use lib.Dec.{eqb}
 use lib.ListN.{length, drop, length-drop}
-use Rattle.grammar.specs.Expression.{Exp, most-open, textE}
-use Rattle.grammar.specs.Machine.{start, join, State, need, have, closed, parted, delimited, Out, stuck, whole, last, finish, step, run, Reading, read, wrong, told, reading}
+use Rattle.grammar.specs.Expression.{Exp, most-open}
+use Rattle.grammar.specs.Machine.{start, join, State, need, have, closed, parted, delimited, stuck, whole, last, finish, step, run, Reading, read, wrong, told, reading}
 use Rattle.grammar.specs.Names.{Kind}
-use Rattle.grammar.specs.Cells.{Yields, emitE}
+use Rattle.grammar.specs.Cells.{Yields}
 use Rattle.grammar.specs.Contract.{ReadsExpression, ExpressionAt, Told, Answer}
 use Rattle.grammar.specs.declared.Parsed.{Parsed}
 use Rattle.grammar.specs.declared.Parsed.the-variants.{Good, Bad}
 use Rattle.grammar.specs.declared.Program.{Program}
-use Rattle.grammar.specs.declared.Made.{Made}
 use Rattle.grammar.proofs.Machine.{reading-is, run-end, run-stop}
 use Rattle.grammar.proofs.ReaderWays.{cond-same, delims}
 use Rattle.grammar.proofs.Emits.{Empty, yields}

@@ -1,12 +1,8 @@
 use Rattle.grammar.proofs.Whole.{r-bad, r-rest, r-whole}
 use mathlib.Core.Path.{refl}
 use borrow.Author.Needs.{needs}
-use native.Mathlib.Omega.{arith}
 use Rattle.grammar.proofs.read.Statement.{statement}
 use Rattle.grammar.proofs.read.Tie as tie
-use Rattle.grammar.proofs.read.Reads as reads
-use Rattle.grammar.proofs.read.Lts as lts
-use Rattle.grammar.proofs.expression.Reads as expression-reads
 
 expression-requires : tie.Need-expression-requires
 expression-requires c κs = search needs
