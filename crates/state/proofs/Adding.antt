@@ -229,6 +229,8 @@ module _ (f w : List ℕ) (st : State) (d : Declared) (S : Stands f w st d) (σ 
     grants = S .grants;
     rules = S .rules;
     few-rules = S .few-rules;
+    sorted = S .sorted;
+    shaped = S .shaped;
     no-grants = λ _. S .no-grants early;
   }
 
@@ -325,5 +327,7 @@ module _ (f w : List ℕ) (st : State) (d : Declared) (S : Stands f w st d) (fro
     grants = table-grants;
     rules = S .rules;
     few-rules = S .few-rules;
+    sorted = S .sorted;
+    shaped = S .shaped;
     no-grants = λ _. S .no-grants early;
   }

@@ -134,6 +134,8 @@ module _ (f w : List ℕ) (st : State) (d : Declared) (S : Stands f w st d) (t s
     grants = now-granted;
     rules = S .rules;
     few-rules = S .few-rules;
+    sorted = S .sorted;
+    shaped = S .shaped;
     no-grants = λ h. absurd (omega arith);
   }
 

@@ -142,6 +142,8 @@ module _ (f w : List ℕ) (st : State) (d : Declared) (S : Stands f w st d) (σ 
     grants = S .grants;
     rules = S .rules;
     few-rules = S .few-rules;
+    sorted = S .sorted;
+    shaped = S .shaped;
     no-grants = λ _. S .no-grants early;
   }
 
@@ -259,5 +261,7 @@ module _ (f w : List ℕ) (st : State) (d : Declared) (S : Stands f w st d) (σ 
     grants = S .grants;
     rules = S .rules;
     few-rules = S .few-rules;
+    sorted = S .sorted;
+    shaped = S .shaped;
     no-grants = λ _. S .no-grants early;
   }

@@ -14,6 +14,9 @@ use Rattle.grammar.specs.declared.NameCounts.{NameCounts}
 use Rattle.reader.specs.Declarations.{Predicate, Declared, count, noTable}
 use Rattle.reader.specs.State.{Names}
 use Rattle.reader.specs.Expression.{lookup}
+use Rattle.algebra.specs.declared.StoredRule.{StoredRule}
+use Rattle.reader.specs.Rows.{placedLast}
+use Rattle.state.specs.Sorts.{Sorted}
 use Rattle.state.specs.declared.State.{State}
 
 abbrev pub flag : Bool → ℕ
@@ -60,6 +63,9 @@ pub record Sizes (st : State) : Type 0 where
   pub marks : length (st .marks) ≡ 1024
   pub rules : length (st .rules) ≡ 64
 
+abbrev pub noRule : StoredRule
+noRule = record { set = 0; head = record { kind = 0; sort = 0; x = 0; y = 0; z = 0 }; body = []; count = 0 }
+
 -- the state, with the grants in the lent memory w, stands for what is declared, but for the expression
 pub record Stands (f w : List ℕ) (st : State) (d : Declared) : Type 0 where
   pub is-group : st .group ≡ d .group
@@ -72,6 +78,9 @@ pub record Stands (f w : List ℕ) (st : State) (d : Declared) : Type 0 where
   pub grants : (i : ℕ) → i < length (d .tables) → grantsOf i (st .grants) w ≡ getD (d .tables) i noTable .grants
   pub rules : d .rules ≡ map storedRule (take (st .many) (st .rules))
   pub few-rules : st .many ≤ 64
+  -- the sorts of the last rule's variables, and room for four atoms in each rule
+  pub sorted : Sorted (st .sorts) (placedLast (d .rules))
+  pub shaped : (k : ℕ) → k < 64 → (length (getD (st .rules) k noRule .body) ≡ 4) × (getD (st .rules) k noRule .count ≤ 4)
   -- all T lines come before all G lines
   pub no-grants : st .group < 5 → st .grants ≡ 0
 
