@@ -1,0 +1,17 @@
+use borrow.Author.Tests.{eq-eqb, ne-eqb, le-leb, lt-leb, lt-ltb, le-ltb}
+use Rattle.grammar.specs.Name.{isLetter}
+use Rattle.grammar.proofs.is_letter.Statement.{statement}
+use Rattle.grammar.proofs.is_letter.Tie as tie
+use Rattle.grammar.proofs.is_letter.Reads as reads
+use Rattle.grammar.proofs.is_letter.Lts as lts
+
+returns : tie.Need-returns
+unfolding isLetter
+returns c = rw (lt-leb _ _ (c .if1 .taken))
+
+returns-2 : tie.Need-returns-2
+unfolding isLetter
+returns-2 c = rw (le-leb _ _ (c .if1 .left))
+
+pub is-letter-spec : {M : Type 1} → statement M
+is-letter-spec = tie.close (tie.spec returns returns-2)

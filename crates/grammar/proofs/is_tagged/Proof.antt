@@ -1,0 +1,19 @@
+use borrow.Author.Tests.{le-leb, lt-leb}
+use Rattle.grammar.specs.Lookup.{isTagged}
+use borrow.Author.Needs.{needs}
+use native.Mathlib.Omega.{arith}
+use Rattle.grammar.proofs.is_tagged.Statement.{statement}
+use Rattle.grammar.proofs.is_tagged.Tie as tie
+use Rattle.grammar.proofs.is_tagged.Reads as reads
+use Rattle.grammar.proofs.is_tagged.Lts as lts
+
+returns : tie.Need-returns
+unfolding isTagged
+returns c = rw (le-leb _ _ (c .if1 .taken))
+
+returns-2 : tie.Need-returns-2
+unfolding isTagged
+returns-2 c = rw (lt-leb _ _ (c .if1 .left))
+
+pub is-tagged-spec : {M : Type 1} → statement M
+is-tagged-spec = tie.close (tie.spec returns returns-2)

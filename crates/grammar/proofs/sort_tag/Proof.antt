@@ -1,0 +1,16 @@
+use Rattle.grammar.proofs.Lookup.{tag-low, tag-high}
+use borrow.Author.Needs.{needs}
+use native.Mathlib.Omega.{arith}
+use Rattle.grammar.proofs.sort_tag.Statement.{statement}
+use Rattle.grammar.proofs.sort_tag.Tie as tie
+use Rattle.grammar.proofs.sort_tag.Reads as reads
+use Rattle.grammar.proofs.sort_tag.Lts as lts
+
+returns : tie.Need-returns
+returns c = tag-low _ (c .if1 .taken)
+
+returns-2 : tie.Need-returns-2
+returns-2 c = tag-high _ (c .if1 .left)
+
+pub sort-tag-spec : {M : Type 1} → statement M
+sort-tag-spec = tie.close (tie.spec returns returns-2)
