@@ -1,0 +1,4 @@
+-- The laws of the definitions.
+pub mod Bytes
+pub mod Sets
+pub mod Grants
