@@ -27,7 +27,15 @@ unfoldable pub Names : Frame → Scope → Type 0
 Names fr (compared σ op m) = m < members fr σ
 Names fr (marked σ p) = p < 16
 
--- a member of a sort, of three
+-- how many accesses there are
+abbrev pub accessesOf : Counts → ℕ
+accessesOf z = z .subjects * z .objects * z .actions
+
+-- each sort has at most 64 members
+abbrev pub Small : Counts → Type 0
+Small z = (z .subjects ≤ 64) × (z .objects ≤ 64) × (z .actions ≤ 64)
+
+-- the member of a sort, of three
 abbrev pub memberOf : Sort → ℕ → ℕ → ℕ → ℕ
 memberOf subject s o a = s
 memberOf object s o a = o
@@ -43,11 +51,14 @@ abbrev pub flag : Bool → ℕ
 flag true = 1
 flag false = 0
 
--- The tables t, and the counts z, stand for a frame's order and predicates.
-pub record Shown (fr : Frame) (z : Counts) (t : List ℕ) : Type 0 where
+-- the counts of a frame's members
+pub record Sized (fr : Frame) (z : Counts) : Type 0 where
   pub subjects : z .subjects ≡ members fr subject
   pub objects : z .objects ≡ members fr object
   pub actions : z .actions ≡ members fr action
+
+-- The tables stand for a frame's order and predicates.
+pub record Shown (fr : Frame) (t : List ℕ) : Type 0 where
   -- 1 where x le y
   pub order : (σ : Sort) (x y : ℕ) → x < members fr σ → y < members fr σ → getD t (tableOf σ + x * 64 + y) 0 ≡ flag (below (parents fr σ) x y)
   -- 1 where predicate p lists x

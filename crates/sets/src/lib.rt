@@ -1,17 +1,27 @@
 // Sets of answers in lent working memory: fourteen sets of 4,096 bytes, a byte an access, and then two bytes a grant. Each contract says every byte afterwards.
+use algebra::Action;
+use algebra::Counts;
+use algebra::Object;
+use algebra::Subject;
+use algebra::access;
 use algebra::larger;
 use algebra::minus;
 use algebra::overridden;
+use algebra::scoped;
 use algebra::smaller;
 ghost use mathlib.Core.Path.{_≡_};
+ghost use mathlib.Core.Bool.{_&&_};
 ghost use Prim.Native.Nat.{ℕ, _+_, _*_, _≤_, _<_};
 ghost use lib.Dec.{eqb};
-ghost use lib.ListN.{length, take};
+ghost use lib.ListN.{length, getD, take};
 ghost use Rattle.algebra.specs.Lists.{any, tab};
-ghost use Rattle.algebra.specs.Answer.{undecided, byte, sure};
+ghost use Rattle.algebra.specs.Answer.{undecided, byte, keep, sure};
+ghost use Rattle.algebra.specs.Policy.{Frame, members, accesses, part, inScope};
+ghost use Rattle.algebra.specs.Stored.{storedSort};
 ghost use Rattle.sets.specs.Bytes.{put, written, cleared, tally};
 ghost use Rattle.sets.specs.Sets.{answerOf, answerAt, putSet, Room, Answers, operation, replaced};
 ghost use Rattle.sets.specs.Grants.{grantAt, grantsOf};
+ghost use Rattle.sets.specs.Scopes.{storedScope, Coded, Names, accessesOf, Small, memberOf, Sized, Shown};
 
 // A scope as the code holds it. Kinds 1 to 5: a member le, ge, lt, gt or eq the member x, in the sort 0, 1 or 2. Kind 6: the predicate x.
 pub struct StoredScope {
@@ -125,6 +135,84 @@ pub fn replace(w: &mut [u8], k: usize, n: usize)
         let q = w[second + x];
         let s = w[third + x];
         w[first + x] = overridden(p, q, s);
+    }
+}
+
+// The member of a sort, of three.
+fn member(sort: u8, s: Subject, o: Object, a: Action) -> u8
+    ensures { λ r. ⌜ r ≡ memberOf (storedSort sort) (s .0) (o .0) (a .0) ⌝ }
+{
+    if sort == 0 {
+        return s.0;
+    }
+    if sort == 1 {
+        return o.0;
+    }
+    a.0
+}
+
+// Whether the byte at row x and column y is 1, in the table that begins at `at`.
+fn flagged(t: &[u8], at: usize, x: u8, y: u8) -> bool
+    requires { ⌜ (length (now t) ≡ 16384) × (at ≤ 12288) × (x < 64) × (y < 64) ⌝ }
+    ensures { λ r. ⌜ r ≡ eqb (getD (now (t .entry)) (at + x * 64 + y) 0) 1 ⌝ }
+{
+    let i = at + wide(x) * 64 + wide(y);
+    t[i] == 1
+}
+
+fn both(x: bool, y: bool) -> bool
+    ensures { λ r. ⌜ r ≡ (x && y) ⌝ }
+{
+    if x { y } else { false }
+}
+
+// Whether a scope holds the accesses of the member m of its sort.
+fn passes(t: &[u8], c: StoredScope, m: u8) -> bool
+    requires { ⌜ length (now t) ≡ 16384 ⌝ }
+    requires { ⌜ Coded c ⌝ }
+    requires { ⌜ m < 64 ⌝ }
+    ensures { λ r. ⌜ ((fr : Frame) (x : ℕ) → Shown fr (now (t .entry)) → Names fr (storedScope c) → part fr (storedSort (c .sort)) x ≡ m → m < members fr (storedSort (c .sort)) → r ≡ inScope fr (storedScope c) x) ⌝ }
+{
+    let table = wide(c.sort) * 4096;
+    if c.kind == 1 {
+        return flagged(t, table, m, c.x);
+    }
+    if c.kind == 2 {
+        return flagged(t, table, c.x, m);
+    }
+    if c.kind == 3 {
+        return both(flagged(t, table, m, c.x), m != c.x);
+    }
+    if c.kind == 4 {
+        return both(flagged(t, table, c.x, m), m != c.x);
+    }
+    if c.kind == 5 {
+        return m == c.x;
+    }
+    flagged(t, 12288, c.x, m)
+}
+
+// Set k keeps the answers inside a scope, and the others become 0.
+pub fn scope(w: &mut [u8], k: usize, t: &[u8], z: Counts, c: StoredScope)
+    requires { ⌜ Room k (accessesOf z) (now w) × Small z × (length (now t) ≡ 16384) ⌝ }
+    requires { ⌜ Coded c ⌝ }
+    requires { ⌜ Answers k (accessesOf z) (now w) ⌝ }
+    ensures { λ _. ⌜ ((fr : Frame) → Sized fr z → Shown fr (now (t .entry)) → Names fr (storedScope c) → now (w .exit) ≡ putSet k (accesses fr) (λ x. keep (inScope fr (storedScope c) x) (answerAt k (now (w .entry)) x)) (now (w .entry))) ⌝ }
+{
+    let at = k * 4096;
+    let subjects = z.subjects;
+    let objects = z.objects;
+    let actions = z.actions;
+    'subjects: for s in 0..subjects {
+        'objects: for o in 0..objects {
+            'actions: for a in 0..actions {
+                let m = member(c.sort, Subject(s), Object(o), Action(a));
+                let inside = passes(t, c, m);
+                let x = access(Subject(s), Object(o), Action(a), z);
+                let b = w[at + x];
+                w[at + x] = scoped(b, inside);
+            }
+        }
     }
 }
 
