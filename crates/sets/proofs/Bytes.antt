@@ -1,18 +1,17 @@
 -- Laws of bytes in lent memory: what `put` leaves at each place, and a loop that puts one byte a turn.
 use mathlib.Core.Path.{_≡_, refl, sym, ap, _∙_}
-use mathlib.Core.Logic.{_⊎_, inl, inr}
 use mathlib.Core.Bool.{Bool, true, false}
-use mathlib.Core.List.{List, [], _∷_, _++_, append-assoc}
-use Prim.Native.Nat.{ℕ, zero, suc, _+_, _-_, _≤_, _<_}
+use mathlib.Core.List.{List, [], _∷_, _++_}
+use Prim.Native.Nat.{ℕ, suc, _+_, _-_, _≤_, _<_}
 use native.Mathlib.Nat.{zero-add, add-zero, not-suc-le-zero}
-use native.Mathlib.Decide.{ℕ-discrete, decLt, decLe}
+use native.Mathlib.Decide.{ℕ-discrete, decLt}
 use native.Mathlib.Numerals.{add-one}
 use native.Mathlib.Omega.{arith}
 use lib.Dec.{eqb}
 use lib.ListN.{length, getD, set, take, drop, replicate, length-append, length-take, length-drop, length-set, length-replicate, getD-replicate, List·getD-append}
-use lib.Seq.{ext-getD, getD-set-same, getD-set-other, getD-append-add, getD-drop, getD-take, take-suc, length-take-le}
+use lib.Seq.{ext-getD, getD-set-same, getD-set-other, getD-append-add, getD-drop, getD-take, take-suc, length-take-le, drop-drop}
 use borrow.Author.Tests.{eq-eqb, ne-eqb}
-use Rattle.algebra.specs.Lists.{tabFrom, tab}
+use Rattle.algebra.specs.Lists.{tab}
 use Rattle.algebra.proofs.Lists.{length-tab, getD-tab, tab-cong}
 use Rattle.sets.specs.Bytes.{put, written, tally}
 
@@ -77,6 +76,11 @@ module _ (at n : ℕ) (f : ℕ → ℕ) (w : List ℕ) (fits : at + n ≤ length
 -- the same bytes by another function
 pub put-cong : (at n : ℕ) (f g : ℕ → ℕ) (w : List ℕ) → ((i : ℕ) → i < n → f i ≡ g i) → put at (tab n f) w ≡ put at (tab n g) w
 put-cong at n f g w h = ap (λ bs. put at bs w) (tab-cong n f g h)
+
+-- a part that was lent, back in its place
+pub part-put : (at n : ℕ) (bs w : List ℕ) → length bs ≡ n → take at w ++ (bs ++ drop n (drop at w)) ≡ put at bs w
+unfolding put
+part-put at n bs w e = rw (drop-drop n at w, e)
 
 -- ---- a loop that puts one byte a turn
 

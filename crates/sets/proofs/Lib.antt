@@ -4,3 +4,4 @@ pub mod Bytes
 pub mod Sets
 pub mod Grants
 pub mod Scopes
+pub mod Stack

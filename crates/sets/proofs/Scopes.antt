@@ -1,22 +1,22 @@
 -- Laws of scopes: what the tables say of a member, and a walk over the accesses.
-use mathlib.Core.Path.{_≡_, refl, sym, ap, ap₂, subst, _∙_}
+use mathlib.Core.Path.{_≡_, refl, sym, ap, subst, _∙_}
 use mathlib.Core.Bool.{Bool, true, false, cond, not, _&&_}
 use mathlib.Core.List.{List}
 use Prim.Native.Nat.{ℕ, zero, suc, _+_, _*_, _≤_, _<_}
 use native.Mathlib.Numerals.{add-one}
 use native.Mathlib.Omega.{arith}
 use lib.Dec.{eqb}
-use lib.ListN.{length, getD, set, length-set}
+use lib.ListN.{length, getD, set}
 use borrow.Author.Tests.{eq-eqb, ne-eqb}
 use Rattle.algebra.specs.Sort.{Sort, subject, object, action}
 use Rattle.algebra.specs.Answer.{Answer, byte, keep}
 use Rattle.algebra.specs.Order.{Op, le, ge, lt, gt, eq, below, compares}
-use Rattle.algebra.specs.Policy.{Frame, Scope, compared, marked, parents, members, accesses, number, part, isMarked, inScope}
+use Rattle.algebra.specs.Policy.{Frame, compared, marked, parents, members, accesses, number, part, isMarked, inScope}
 use Rattle.algebra.specs.Stored.{storedSort, storedOp}
 use Rattle.algebra.specs.declared.Counts.{Counts}
 use Rattle.algebra.proofs.Answer.{byte-keep}
 use Rattle.algebra.proofs.Number.{part-subject, part-object, part-action}
-use Rattle.sets.specs.Sets.{Answers, byteAt, answerOf, answerAt, putSet}
+use Rattle.sets.specs.Sets.{Answers, byteAt, answerAt, putSet}
 use Rattle.sets.specs.Scopes.{storedScope, Coded, Names, accessesOf, Small, memberOf, tableOf, flag, Sized, Shown}
 use Rattle.sets.specs.declared.StoredScope.{StoredScope}
 use Rattle.sets.proofs.Sets.{byte-answerOf, putSet-none, putSet-more, unreached}

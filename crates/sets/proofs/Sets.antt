@@ -1,17 +1,13 @@
 -- Laws of sets of answers: their bytes, and the stack of sets.
 use mathlib.Core.Path.{_≡_, refl, sym, ap, ap₂, _∙_}
-use mathlib.Core.Bool.{Bool, true, false}
-use mathlib.Core.List.{List, [], _∷_, map}
+use mathlib.Core.List.{List}
 use Prim.Native.Nat.{ℕ, zero, suc, _+_, _*_, _-_, _≤_, _<_, max, min}
 use native.Mathlib.Omega.{arith}
-use lib.Dec.{eqb}
-use lib.ListN.{length, getD, set, take, drop}
-use borrow.Author.Tests.{eq-eqb, ne-eqb}
-use Rattle.algebra.specs.Lists.{tab}
-use Rattle.algebra.specs.Answer.{Answer, deny, undecided, permit, byte, _⊔_, _⊓_, _⊖_}
+use lib.ListN.{length, getD, set}
+use borrow.Author.Tests.{ne-eqb}
+use Rattle.algebra.specs.Answer.{Answer, deny, undecided, permit, byte}
 use Rattle.algebra.proofs.Answer.{byte-⊔, byte-⊓, byte-⊖, byte-override}
-use Rattle.sets.specs.Bytes.{put}
-use Rattle.sets.specs.Sets.{answerOf, byteAt, answerAt, setAt, putSet, operation, replaced, Stack}
+use Rattle.sets.specs.Sets.{answerOf, byteAt, answerAt, putSet, operation, replaced}
 use Rattle.sets.proofs.Bytes.{length-put-tab, put-tab-low, put-tab-at, put-tab-high, is-put, put-cong, put-none, put-more}
 
 -- ---- bytes and answers

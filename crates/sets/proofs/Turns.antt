@@ -1,9 +1,8 @@
 -- What the turns of a loop make of a state, and of loops within loops.
-use mathlib.Core.Path.{_≡_, refl, sym, ap, _∙_}
+use mathlib.Core.Path.{_≡_, sym, ap, _∙_}
 use Prim.Native.Nat.{ℕ, zero, suc, _+_, _*_, _≤_}
 use native.Mathlib.Nat.{le-antisymm, zero-mul, add-zero, add-suc, suc-mul}
 use native.Mathlib.Numerals.{add-one}
-use native.Mathlib.Omega.{arith}
 
 -- what n turns make of s, turn k being the function f k
 abbrev pub turns : {S : Type 0} → ℕ → (ℕ → S → S) → S → S

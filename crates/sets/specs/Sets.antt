@@ -47,6 +47,6 @@ abbrev pub replaced : Answer → Answer → Answer → Answer
 replaced p q s = (p ⊖ s) ⊔ (q ⊓ s)
 
 -- A stack of sets, the top first: below a set lie as many as its number says.
-unfoldable pub Stack : ℕ → List ℕ → List (List Answer) → Type 0
-Stack n w [] = Unit {0}
-Stack n w (s ∷ st) = (length s ≡ n) × (setAt (length st) n w ≡ map byte s) × Stack n w st
+pub data Stack (n : ℕ) (w : List ℕ) : List (List Answer) → Type 0 where
+  no-set : Stack n w []
+  set-on : {v : List Answer} {st : List (List Answer)} → length v ≡ n → setAt (length st) n w ≡ map byte v → Stack n w st → Stack n w (v ∷ st)
