@@ -73,10 +73,7 @@ stored-compared : (c : StoredScope) → (c .kind ≡ 6 → ⊥) → storedScope 
 unfolding storedScope
 stored-compared c e = rw (ne-eqb (c .kind) 6 e, storedScope)
 
-module _ (t : List ℕ) (c : StoredScope) (ok : Coded c) (m : ℕ) (fr : Frame) (y : ℕ) (sh : Shown fr t) (nm : Names fr (storedScope c)) (pt : part fr (storedSort (c .sort)) y ≡ m) (lt′ : m < members fr (storedSort (c .sort))) where
-  σ : Sort
-  σ = storedSort (c .sort)
-
+module _ (t : List ℕ) (c : StoredScope) (ok : Coded c) (m : ℕ) (fr : Frame) (y : ℕ) (sh : Shown fr t) (nm : Names fr (storedScope c)) (pt : part fr (storedSort (c .sort)) y ≡ m) (less : m < members fr (storedSort (c .sort))) where
   -- a comparison
   module _ (op : Op) (is-op : storedOp (c .kind) ≡ op) (no-mark : c .kind ≡ 6 → ⊥) where
     is-compared : storedScope c ≡ compared (storedSort (c .sort)) op (c .x)
@@ -90,39 +87,50 @@ module _ (t : List ℕ) (c : StoredScope) (ok : Coded c) (m : ℕ) (fr : Frame) 
     unfolding inScope
     in-compared = ap (λ m. compares (parents fr (storedSort (c .sort))) op m (c .x)) (sym pt) ∙ ap (λ s. inScope fr s y) (sym is-compared)
 
-    -- the member is le the scope's
-    up : eqb (getD t (c .sort * 4096 + m * 64 + c .x) 0) 1 ≡ below (parents fr (storedSort (c .sort))) m (c .x)
-    up = ap (λ b. eqb (getD t (b + m * 64 + c .x) 0) 1) (table-at (c .sort) (ok .last-sort)) ∙ ap (λ b. eqb b 1) (sh .order (storedSort (c .sort)) m (c .x) lt′ x-lt) ∙ flag-test _
+    -- the member is le the scope's; n is the scope's sort and b the byte's test
+    up : (n : ℕ) (b : Bool) → n ≡ c .sort → b ≡ eqb (getD t (n * 4096 + m * 64 + c .x) 0) 1 → b ≡ below (parents fr (storedSort (c .sort))) m (c .x)
+    up n b e q =
+        q ∙ ap (λ i. eqb (getD t (i + m * 64 + c .x) 0) 1) (ap (λ n. n * 4096) e ∙ table-at (c .sort) (ok .last-sort)) ∙ ap (λ v. eqb v 1) (sh .order (storedSort (c .sort)) m (c .x) less x-lt)
+        ∙ flag-test _
 
     -- the scope's is le the member
-    down : eqb (getD t (c .sort * 4096 + c .x * 64 + m) 0) 1 ≡ below (parents fr (storedSort (c .sort))) (c .x) m
-    down = ap (λ b. eqb (getD t (b + c .x * 64 + m) 0) 1) (table-at (c .sort) (ok .last-sort)) ∙ ap (λ b. eqb b 1) (sh .order (storedSort (c .sort)) (c .x) m x-lt lt′) ∙ flag-test _
+    down : (n : ℕ) (b : Bool) → n ≡ c .sort → b ≡ eqb (getD t (n * 4096 + c .x * 64 + m) 0) 1 → b ≡ below (parents fr (storedSort (c .sort))) (c .x) m
+    down n b e q =
+        q ∙ ap (λ i. eqb (getD t (i + c .x * 64 + m) 0) 1) (ap (λ n. n * 4096) e ∙ table-at (c .sort) (ok .last-sort)) ∙ ap (λ v. eqb v 1) (sh .order (storedSort (c .sort)) (c .x) m x-lt less)
+        ∙ flag-test _
 
-  pub passes-le : c .kind ≡ 1 → eqb (getD t (c .sort * 4096 + m * 64 + c .x) 0) 1 ≡ inScope fr (storedScope c) y
+  -- the five comparisons and the predicate, r being what the code returns
+  pub passes-le : (n : ℕ) (r : Bool) → n ≡ c .sort → r ≡ eqb (getD t (n * 4096 + m * 64 + c .x) 0) 1 → c .kind ≡ 1 → r ≡ inScope fr (storedScope c) y
   unfolding storedOp compares
-  passes-le e = let o : storedOp (c .kind) ≡ le = rw e refl in let n : c .kind ≡ 6 → ⊥ = λ r. omega arith in up le o n ∙ in-compared le o n
+  passes-le n r e q k = let o : storedOp (c .kind) ≡ le = rw k refl in let no : c .kind ≡ 6 → ⊥ = λ h. omega arith in up le o no n r e q ∙ in-compared le o no
 
-  pub passes-ge : c .kind ≡ 2 → eqb (getD t (c .sort * 4096 + c .x * 64 + m) 0) 1 ≡ inScope fr (storedScope c) y
+  pub passes-ge : (n : ℕ) (r : Bool) → n ≡ c .sort → r ≡ eqb (getD t (n * 4096 + c .x * 64 + m) 0) 1 → c .kind ≡ 2 → r ≡ inScope fr (storedScope c) y
   unfolding storedOp compares
-  passes-ge e = let o : storedOp (c .kind) ≡ ge = rw e refl in let n : c .kind ≡ 6 → ⊥ = λ r. omega arith in down ge o n ∙ in-compared ge o n
+  passes-ge n r e q k = let o : storedOp (c .kind) ≡ ge = rw k refl in let no : c .kind ≡ 6 → ⊥ = λ h. omega arith in down ge o no n r e q ∙ in-compared ge o no
 
-  pub passes-lt : c .kind ≡ 3 → (eqb (getD t (c .sort * 4096 + m * 64 + c .x) 0) 1 && not (eqb m (c .x))) ≡ inScope fr (storedScope c) y
+  pub passes-lt : (n : ℕ) (b r : Bool) → n ≡ c .sort → b ≡ eqb (getD t (n * 4096 + m * 64 + c .x) 0) 1 → r ≡ (b && not (eqb m (c .x))) → c .kind ≡ 3 → r ≡ inScope fr (storedScope c) y
   unfolding storedOp compares
-  passes-lt e = let o : storedOp (c .kind) ≡ lt = rw e refl in let n : c .kind ≡ 6 → ⊥ = λ r. omega arith in ap (λ b. b && not (eqb m (c .x))) (up lt o n) ∙ in-compared lt o n
+  passes-lt n b r e q d k =
+      let o : storedOp (c .kind) ≡ lt = rw k refl in
+      let no : c .kind ≡ 6 → ⊥ = λ h. omega arith in
+      d ∙ ap (λ b. b && not (eqb m (c .x))) (up lt o no n b e q) ∙ in-compared lt o no
 
-  pub passes-gt : c .kind ≡ 4 → (eqb (getD t (c .sort * 4096 + c .x * 64 + m) 0) 1 && not (eqb m (c .x))) ≡ inScope fr (storedScope c) y
+  pub passes-gt : (n : ℕ) (b r : Bool) → n ≡ c .sort → b ≡ eqb (getD t (n * 4096 + c .x * 64 + m) 0) 1 → r ≡ (b && not (eqb m (c .x))) → c .kind ≡ 4 → r ≡ inScope fr (storedScope c) y
   unfolding storedOp compares
-  passes-gt e = let o : storedOp (c .kind) ≡ gt = rw e refl in let n : c .kind ≡ 6 → ⊥ = λ r. omega arith in ap (λ b. b && not (eqb m (c .x))) (down gt o n) ∙ in-compared gt o n
+  passes-gt n b r e q d k =
+      let o : storedOp (c .kind) ≡ gt = rw k refl in
+      let no : c .kind ≡ 6 → ⊥ = λ h. omega arith in
+      d ∙ ap (λ b. b && not (eqb m (c .x))) (down gt o no n b e q) ∙ in-compared gt o no
 
   pub passes-eq : c .kind ≡ 5 → eqb m (c .x) ≡ inScope fr (storedScope c) y
   unfolding storedOp compares
-  passes-eq e = let o : storedOp (c .kind) ≡ eq = rw e refl in let n : c .kind ≡ 6 → ⊥ = λ r. omega arith in in-compared eq o n
+  passes-eq k = let o : storedOp (c .kind) ≡ eq = rw k refl in let no : c .kind ≡ 6 → ⊥ = λ h. omega arith in in-compared eq o no
 
-  pub passes-mark : c .kind ≡ 6 → eqb (getD t (12288 + c .x * 64 + m) 0) 1 ≡ inScope fr (storedScope c) y
+  pub passes-mark : (r : Bool) → r ≡ eqb (getD t (12288 + c .x * 64 + m) 0) 1 → c .kind ≡ 6 → r ≡ inScope fr (storedScope c) y
   unfolding inScope Names
-  passes-mark e =
-      let k : storedScope c ≡ marked (storedSort (c .sort)) (c .x) = stored-mark c e in
-      ap (λ b. eqb b 1) (sh .marks (storedSort (c .sort)) (c .x) m (subst (Names fr) k nm) lt′) ∙ flag-test _ ∙ ap (isMarked fr (storedSort (c .sort)) (c .x)) (sym pt) ∙ ap (λ s. inScope fr s y) (sym k)
+  passes-mark r q k =
+      let e : storedScope c ≡ marked (storedSort (c .sort)) (c .x) = stored-mark c k in
+      q ∙ ap (λ v. eqb v 1) (sh .marks (storedSort (c .sort)) (c .x) m (subst (Names fr) e nm) less) ∙ flag-test _ ∙ ap (isMarked fr (storedSort (c .sort)) (c .x)) (sym pt) ∙ ap (λ s. inScope fr s y) (sym e)
 
 -- ---- a walk over the accesses
 

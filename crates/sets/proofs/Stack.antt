@@ -118,6 +118,9 @@ stack-answers {n} {w} (set-on {v = v} {st = st} l e s) k h x b = go (set-on l e 
 pub stack-last : {n : ℕ} {w : List ℕ} {v : List Answer} → Stack n w (v ∷ []) → take n w ≡ map byte v
 stack-last (set-on l e s) = e
 
+pub stack-first : {n : ℕ} {w : List ℕ} {v : List Answer} → Stack n w (v ∷ []) → (x : ℕ) → x < n → getD w x 0 ≡ byte (valueAt v x)
+stack-first {w = w} s x h = ap (λ i. getD w i 0) (omega arith) ∙ stack-byte s x h
+
 -- a closure has an answer for each access
 pub length-shut : (n : ℕ) (G : List Clause) (lim : ℕ) (a : Ran) → length (shut n G lim a .values) ≡ n
 unfolding shut

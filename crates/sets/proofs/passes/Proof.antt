@@ -1,9 +1,4 @@
 -- `sets::passes` meets its contract: each kind by its own law.
-use mathlib.Core.Path.{ap, _∙_}
-use mathlib.Core.Bool.{not, _&&_}
-use Prim.Native.Nat.{_+_, _*_}
-use lib.Dec.{eqb}
-use lib.ListN.{getD}
 use Rattle.sets.proofs.Scopes.{passes-le, passes-ge, passes-lt, passes-gt, passes-eq, passes-mark}
 use borrow.Author.Needs.{needs}
 use native.Mathlib.Omega.{arith}
@@ -20,13 +15,13 @@ flagged-requires : tie.Need-flagged-requires
 flagged-requires c κs = search needs
 
 returns : tie.Need-returns
-returns c = λ fr x sh nm pt l. c .flagged .ensures ∙ ap (λ n. eqb (getD (c .before .before .before .before .before .args .t .now) (n * 4096 + c .before .before .before .before .before .args .m * 64 + c .before .before .before .before .before .args .c .x) 0) 1) (c .before .before .before .wide .ensures .0) ∙ passes-le (c .before .before .before .before .before .args .t .now) (c .before .before .before .before .before .args .c) (c .before .before .before .before .before .pre .1 .0) (c .before .before .before .before .before .args .m) fr x sh nm pt l (c .before .if1 .taken)
+returns c = let a = c .before .before .before .before .before .args in λ fr x sh nm pt l. passes-le (a .t .now) (a .c) (c .before .before .before .before .before .pre .1 .0) (a .m) fr x sh nm pt l _ _ (c .before .before .before .wide .ensures .0) (c .flagged .ensures) (c .before .if1 .taken)
 
 flagged-requires-2 : tie.Need-flagged-requires-2
 flagged-requires-2 c κs = search needs
 
 returns-2 : tie.Need-returns-2
-returns-2 c = λ fr x sh nm pt l. c .flagged2 .ensures ∙ ap (λ n. eqb (getD (c .before .before .before .before .before .before .before .args .t .now) (n * 4096 + c .before .before .before .before .before .before .before .args .c .x * 64 + c .before .before .before .before .before .before .before .args .m) 0) 1) (c .before .before .before .before .before .wide .ensures .0) ∙ passes-ge (c .before .before .before .before .before .before .before .args .t .now) (c .before .before .before .before .before .before .before .args .c) (c .before .before .before .before .before .before .before .pre .1 .0) (c .before .before .before .before .before .before .before .args .m) fr x sh nm pt l (c .before .if2 .taken)
+returns-2 c = let a = c .before .before .before .before .before .before .before .args in λ fr x sh nm pt l. passes-ge (a .t .now) (a .c) (c .before .before .before .before .before .before .before .pre .1 .0) (a .m) fr x sh nm pt l _ _ (c .before .before .before .before .before .wide .ensures .0) (c .flagged2 .ensures) (c .before .if2 .taken)
 
 flagged-requires-3 : tie.Need-flagged-requires-3
 flagged-requires-3 c κs = search needs
@@ -35,7 +30,7 @@ both-requires : tie.Need-both-requires
 both-requires c κs = search needs
 
 returns-3 : tie.Need-returns-3
-returns-3 c = λ fr x sh nm pt l. c .both .ensures ∙ ap (λ b. b && not (eqb (c .before .before .before .before .before .before .before .before .before .before .before .args .m) (c .before .before .before .before .before .before .before .before .before .before .before .args .c .x))) (c .before .before .flagged3 .ensures ∙ ap (λ n. eqb (getD (c .before .before .before .before .before .before .before .before .before .before .before .args .t .now) (n * 4096 + c .before .before .before .before .before .before .before .before .before .before .before .args .m * 64 + c .before .before .before .before .before .before .before .before .before .before .before .args .c .x) 0) 1) (c .before .before .before .before .before .before .before .before .before .wide .ensures .0)) ∙ passes-lt (c .before .before .before .before .before .before .before .before .before .before .before .args .t .now) (c .before .before .before .before .before .before .before .before .before .before .before .args .c) (c .before .before .before .before .before .before .before .before .before .before .before .pre .1 .0) (c .before .before .before .before .before .before .before .before .before .before .before .args .m) fr x sh nm pt l (c .before .before .before .if3 .taken)
+returns-3 c = let a = c .before .before .before .before .before .before .before .before .before .before .before .args in λ fr x sh nm pt l. passes-lt (a .t .now) (a .c) (c .before .before .before .before .before .before .before .before .before .before .before .pre .1 .0) (a .m) fr x sh nm pt l _ _ _ (c .before .before .before .before .before .before .before .before .before .wide .ensures .0) (c .before .before .flagged3 .ensures) (c .both .ensures) (c .before .before .before .if3 .taken)
 
 flagged-requires-4 : tie.Need-flagged-requires-4
 flagged-requires-4 c κs = search needs
@@ -44,16 +39,16 @@ both-requires-2 : tie.Need-both-requires-2
 both-requires-2 c κs = search needs
 
 returns-4 : tie.Need-returns-4
-returns-4 c = λ fr x sh nm pt l. c .both2 .ensures ∙ ap (λ b. b && not (eqb (c .before .before .before .before .before .before .before .before .before .before .before .before .before .args .m) (c .before .before .before .before .before .before .before .before .before .before .before .before .before .args .c .x))) (c .before .before .flagged4 .ensures ∙ ap (λ n. eqb (getD (c .before .before .before .before .before .before .before .before .before .before .before .before .before .args .t .now) (n * 4096 + c .before .before .before .before .before .before .before .before .before .before .before .before .before .args .c .x * 64 + c .before .before .before .before .before .before .before .before .before .before .before .before .before .args .m) 0) 1) (c .before .before .before .before .before .before .before .before .before .before .before .wide .ensures .0)) ∙ passes-gt (c .before .before .before .before .before .before .before .before .before .before .before .before .before .args .t .now) (c .before .before .before .before .before .before .before .before .before .before .before .before .before .args .c) (c .before .before .before .before .before .before .before .before .before .before .before .before .before .pre .1 .0) (c .before .before .before .before .before .before .before .before .before .before .before .before .before .args .m) fr x sh nm pt l (c .before .before .before .if4 .taken)
+returns-4 c = let a = c .before .before .before .before .before .before .before .before .before .before .before .before .before .args in λ fr x sh nm pt l. passes-gt (a .t .now) (a .c) (c .before .before .before .before .before .before .before .before .before .before .before .before .before .pre .1 .0) (a .m) fr x sh nm pt l _ _ _ (c .before .before .before .before .before .before .before .before .before .before .before .wide .ensures .0) (c .before .before .flagged4 .ensures) (c .both2 .ensures) (c .before .before .before .if4 .taken)
 
 returns-5 : tie.Need-returns-5
-returns-5 c = λ fr x sh nm pt l. passes-eq (c .before .before .before .before .before .before .before .before .before .before .before .before .before .args .t .now) (c .before .before .before .before .before .before .before .before .before .before .before .before .before .args .c) (c .before .before .before .before .before .before .before .before .before .before .before .before .before .pre .1 .0) (c .before .before .before .before .before .before .before .before .before .before .before .before .before .args .m) fr x sh nm pt l (c .before .if5 .taken)
+returns-5 c = let a = c .before .before .before .before .before .before .before .before .before .before .before .before .before .args in λ fr x sh nm pt l. passes-eq (a .t .now) (a .c) (c .before .before .before .before .before .before .before .before .before .before .before .before .before .pre .1 .0) (a .m) fr x sh nm pt l (c .before .if5 .taken)
 
 flagged-requires-5 : tie.Need-flagged-requires-5
 flagged-requires-5 c κs = search needs
 
 returns-6 : tie.Need-returns-6
-returns-6 c = λ fr x sh nm pt l. c .flagged5 .ensures ∙ passes-mark (c .before .before .before .before .before .before .before .before .before .before .before .before .before .args .t .now) (c .before .before .before .before .before .before .before .before .before .before .before .before .before .args .c) (c .before .before .before .before .before .before .before .before .before .before .before .before .before .pre .1 .0) (c .before .before .before .before .before .before .before .before .before .before .before .before .before .args .m) fr x sh nm pt l (omega arith)
+returns-6 c = let a = c .before .before .before .before .before .before .before .before .before .before .before .before .before .args in λ fr x sh nm pt l. passes-mark (a .t .now) (a .c) (c .before .before .before .before .before .before .before .before .before .before .before .before .before .pre .1 .0) (a .m) fr x sh nm pt l _ (c .flagged5 .ensures) (omega arith)
 
 pub passes-spec : {M : Type 1} → statement M
 passes-spec =
