@@ -3,7 +3,7 @@ use mathlib.Core.Path.{_≡_, refl, sym, ap, _∙_}
 use mathlib.Core.Bool.{Bool, true, false}
 use mathlib.Core.List.{List, [], _∷_, _++_}
 use Prim.Native.Nat.{ℕ, suc, _+_, _-_, _≤_, _<_}
-use native.Mathlib.Nat.{zero-add, add-zero, not-suc-le-zero}
+use native.Mathlib.Nat.{le-antisymm, zero-add, add-zero, not-suc-le-zero}
 use native.Mathlib.Decide.{ℕ-discrete, decLt}
 use native.Mathlib.Numerals.{add-one}
 use native.Mathlib.Omega.{arith}
@@ -101,6 +101,9 @@ put-more at j f w₀ w v h e q =
         rw r (getD-set-same w (at + j) v 0 (omega arith) ∙ q)
     mid i b (no r) =
         getD-set-other w (at + j) (at + i) v 0 (λ s. r (omega arith)) ∙ ap (λ u. getD u (at + i) 0) e ∙ put-tab-at at j f w₀ (omega arith) i (omega arith)
+
+pub put-done : (at j n : ℕ) (f : ℕ → ℕ) (w₀ w : List ℕ) → j ≤ n → n ≤ j → w ≡ put at (tab j f) w₀ → w ≡ put at (tab n f) w₀
+put-done at j n f w₀ w h h′ e = e ∙ ap (λ m. put at (tab m f) w₀) (le-antisymm h h′)
 
 -- ---- bytes that are all the same, from the first place on
 

@@ -3,6 +3,7 @@ use mathlib.Core.Path.{_≡_, refl, sym, ap, _∙_}
 use mathlib.Core.Bool.{Bool, true, false, _||_, or-false, or-true}
 use mathlib.Core.List.{List, [], _∷_, _++_, append-assoc, append-nil}
 use Prim.Native.Nat.{ℕ, zero, suc, _+_, _*_, _/_, _%_, _≤_, _<_}
+use native.Mathlib.Nat.{le-antisymm}
 use native.Mathlib.Decide.{ℕ-discrete}
 use native.Mathlib.Numerals.{add-one}
 use native.Mathlib.Omega.{arith}
@@ -126,9 +127,9 @@ module _ (table k n : ℕ) (w w₁ : List ℕ) (room : Room k n w) (empty : w₁
   unfolding putSet grantsOf
   empty-given = empty ∙ sym (putSet-twice k n (λ x. deny) (λ x. deny) w (omega arith)) ∙ ap (putSet k n (λ x. deny)) (sym empty)
 
-  pub all-given : (count : ℕ) (v : List ℕ) → v ≡ putSet k n (given table count w₁) w₁ → v ≡ putSet k n (given table count w) w
+  pub all-given : (i count : ℕ) (v : List ℕ) → i ≤ count → count ≤ i → v ≡ putSet k n (given table i w₁) w₁ → v ≡ putSet k n (given table count w) w
   unfolding putSet
-  all-given count v e =
-      e ∙ ap (λ u. putSet k n (given table count u) u) empty
+  all-given i count v h h′ e =
+      e ∙ ap (λ i. putSet k n (given table i w₁) w₁) (le-antisymm h h′) ∙ ap (λ u. putSet k n (given table count u) u) empty
       ∙ ap (λ l. putSet k n (λ x. sure (any (eqb x) l)) (putSet k n (λ x. deny) w)) (grantsOf-putSet k n (λ x. deny) w room table count)
       ∙ putSet-twice k n (λ x. deny) (given table count w) w (omega arith)

@@ -2,6 +2,7 @@
 use mathlib.Core.Path.{_≡_, refl, sym, ap, ap₂, _∙_}
 use mathlib.Core.List.{List}
 use Prim.Native.Nat.{ℕ, zero, suc, _+_, _*_, _-_, _≤_, _<_, max, min}
+use native.Mathlib.Nat.{le-antisymm}
 use native.Mathlib.Omega.{arith}
 use lib.ListN.{length, getD, set}
 use borrow.Author.Tests.{ne-eqb}
@@ -91,6 +92,9 @@ putSet-none k f w h = put-none (k * 4096) (λ x. byte (f x)) w h
 pub putSet-more : (k j : ℕ) (f : ℕ → Answer) (w₀ w : List ℕ) (v : ℕ) → k * 4096 + j < length w₀ → w ≡ putSet k j f w₀ → v ≡ byte (f j) → set w (k * 4096 + j) v ≡ putSet k (j + 1) f w₀
 unfolding putSet
 putSet-more k j f w₀ w v h e q = put-more (k * 4096) j (λ x. byte (f x)) w₀ w v h e q
+
+pub putSet-done : (k j n : ℕ) (f : ℕ → Answer) (w₀ w : List ℕ) → j ≤ n → n ≤ j → w ≡ putSet k j f w₀ → w ≡ putSet k n f w₀
+putSet-done k j n f w₀ w h h′ e = e ∙ ap (λ m. putSet k m f w₀) (le-antisymm h h′)
 
 -- a byte that no turn has reached yet
 pub unreached : (k j : ℕ) (f : ℕ → Answer) (w₀ w : List ℕ) (i : ℕ) → k * 4096 + j ≤ length w₀ → w ≡ putSet k j f w₀ → k * 4096 + j ≤ i → getD w i 0 ≡ getD w₀ i 0

@@ -1,11 +1,10 @@
 -- `sets::combine` meets its contract: after x turns x answers of set k are joined with those above.
-use mathlib.Core.Path.{_≡_, refl, ap, ap₂, _∙_}
+use mathlib.Core.Path.{_≡_, refl, ap₂, _∙_}
 use Prim.Native.Nat.{_-_, _≤_}
-use native.Mathlib.Nat.{le-antisymm}
 use lib.ListN.{length, set, length-set}
 use Rattle.algebra.specs.Answer.{byte}
 use Rattle.sets.specs.Sets.{answerOf, putSet, operation}
-use Rattle.sets.proofs.Sets.{putSet-none, putSet-more, operated, reads-first, reads-second}
+use Rattle.sets.proofs.Sets.{putSet-none, putSet-more, putSet-done, operated, reads-first, reads-second}
 use native.Mathlib.Omega.{arith}
 use Rattle.sets.proofs.combine.Statement.{statement}
 use Rattle.sets.proofs.combine.Tie as tie
@@ -23,7 +22,7 @@ add-right : tie.Need-add-right Inv-loop μ-loop
 add-right c = omega arith
 
 loop-holds : tie.Need-loop-holds Inv-loop μ-loop
-loop-holds c = (omega arith, refl, putSet-none (c .before .args .k) (operated (c .before .args .op) (c .before .args .k) (c .before .args .w .now)) (c .before .args .w .now) (omega arith))
+loop-holds c = (omega arith, refl, putSet-none _ _ _ (omega arith))
 
 add-p : tie.Need-add-p Inv-loop μ-loop
 add-p c = omega arith
@@ -38,10 +37,13 @@ slice-read-q : tie.Need-slice-read-q Inv-loop μ-loop
 slice-read-q c = omega arith
 
 joined-requires : tie.Need-joined-requires Inv-loop μ-loop
-joined-requires c κs = let a = c .before .before .before .before .before .args in let r = c .before .before .before .before .before .pre in let l = c .before .before .before .loop in (
-  omega (arith, r .1 .0 (l .x) (omega arith), reads-first (a .k) (a .n) (l .x) _ (a .w .now) (l .w) (l .inv .2) (omega arith) (omega arith) (omega arith)),
-  omega (arith, r .1 .1 (l .x) (omega arith), reads-second (a .k) (a .n) (l .x) _ (a .w .now) (l .w) (l .inv .2) (omega arith) (omega arith) (omega arith)),
-)
+joined-requires c κs =
+    let a = c .before .before .before .before .before .args in
+    let r = c .before .before .before .before .before .pre in
+    let l = c .before .before .before .loop in (
+      omega (arith, r .1 .0 (l .x) (omega arith), reads-first (a .k) (a .n) (l .x) _ (a .w .now) (l .w) (l .inv .2) (omega arith) (omega arith) (omega arith)),
+      omega (arith, r .1 .1 (l .x) (omega arith), reads-second (a .k) (a .n) (l .x) _ (a .w .now) (l .w) (l .inv .2) (omega arith) (omega arith) (omega arith)),
+    )
 
 add-w : tie.Need-add-w Inv-loop μ-loop
 add-w c = omega arith
@@ -56,20 +58,24 @@ loop-less : tie.Need-loop-less Inv-loop μ-loop
 loop-less c = omega arith
 
 loop-again : tie.Need-loop-again Inv-loop μ-loop
-loop-again c = let a = c .before .before .before .before .before .before .args in let l = c .before .before .before .before .loop in (
-  omega arith,
-  length-set (l .w) _ _ ∙ l .inv .1,
-  putSet-more (a .k) (l .x) (operated (a .op) (a .k) (a .w .now)) (a .w .now) (l .w) _ (omega arith) (l .inv .2)
-      (c .joined .ensures ∙ ap₂ (λ p q. byte (operation (a .op) (answerOf p) (answerOf q)))
-      (reads-first (a .k) (a .n) (l .x) _ (a .w .now) (l .w) (l .inv .2) (omega arith) (omega arith) (omega arith))
-      (reads-second (a .k) (a .n) (l .x) _ (a .w .now) (l .w) (l .inv .2) (omega arith) (omega arith) (omega arith))),
-)
+loop-again c =
+    let a = c .before .before .before .before .before .before .args in
+    let l = c .before .before .before .before .loop in (
+      omega arith,
+      length-set (l .w) _ _ ∙ l .inv .1,
+      putSet-more (a .k) (l .x) (operated (a .op) (a .k) (a .w .now)) (a .w .now) (l .w) _ (omega arith) (l .inv .2)
+          (c .joined .ensures ∙ ap₂ (λ p q. byte (operation (a .op) (answerOf p) (answerOf q)))
+          (reads-first (a .k) (a .n) (l .x) _ (a .w .now) (l .w) (l .inv .2) (omega arith) (omega arith) (omega arith))
+          (reads-second (a .k) (a .n) (l .x) _ (a .w .now) (l .w) (l .inv .2) (omega arith) (omega arith) (omega arith))),
+    )
 
 same-length : tie.Need-same-length Inv-loop μ-loop
 same-length c = c .before .loop .inv .1
 
 returns : tie.Need-returns Inv-loop μ-loop
-returns c = c .before .loop .inv .2 ∙ ap (λ n. putSet (c .before .before .before .args .k) n (operated (c .before .before .before .args .op) (c .before .before .before .args .k) (c .before .before .before .args .w .now)) (c .before .before .before .args .w .now)) (le-antisymm (c .before .loop .inv .0) (c .loop-test .left))
+returns c =
+    let a = c .before .before .before .args in
+    putSet-done (a .k) (c .before .loop .x) (a .n) (operated (a .op) (a .k) (a .w .now)) (a .w .now) (c .before .loop .w) (c .before .loop .inv .0) (c .loop-test .left) (c .before .loop .inv .2)
 
 pub combine-spec : {M : Type 1} → statement M
 combine-spec =

@@ -33,7 +33,14 @@ loop-less : tie.Need-loop-less Inv-loop μ-loop
 loop-less c = omega arith
 
 loop-again : tie.Need-loop-again Inv-loop μ-loop
-loop-again c = (omega arith, ⊎-elim (λ q. q .1 ∙ ap (λ m. m + 1) (c .before .before .before .loop .inv .1) ∙ sym (tally-hit (c .before .before .before .before .args .b) (c .before .before .before .loop .x) (c .before .before .before .before .args .s .now) (omega arith) (q .0 .taken))) (λ q. q .1 ∙ c .before .before .before .loop .inv .1 ∙ sym (tally-miss (c .before .before .before .before .args .b) (c .before .before .before .loop .x) (c .before .before .before .before .args .s .now) (omega arith) (q .0 .left))) (c .if1 .came))
+loop-again c =
+    let a = c .before .before .before .before .args in
+    let l = c .before .before .before .loop in (
+      omega arith,
+      ⊎-elim (λ q. q .1 ∙ ap (λ m. m + 1) (l .inv .1) ∙ sym (tally-hit (a .b) (l .x) (a .s .now) (omega arith) (q .0 .taken)))
+          (λ q. q .1 ∙ l .inv .1 ∙ sym (tally-miss (a .b) (l .x) (a .s .now) (omega arith) (q .0 .left)))
+          (c .if1 .came),
+    )
 
 returns : tie.Need-returns Inv-loop μ-loop
 returns c = c .before .loop .inv .1 ∙ ap (λ n. tally (c .before .before .args .b) (take n (c .before .before .args .s .now))) (le-antisymm (c .before .loop .inv .0) (c .loop-test .left))

@@ -2,7 +2,6 @@
 use mathlib.Core.Path.{_≡_, refl, sym, ap, _∙_}
 use mathlib.Core.Logic.{⊎-elim}
 use Prim.Native.Nat.{_+_, _-_, _≤_}
-use native.Mathlib.Nat.{le-antisymm}
 use lib.ListN.{length, set}
 use Rattle.sets.specs.Sets.{Room, putSet}
 use Rattle.sets.proofs.Sets.{length-putSet}
@@ -51,7 +50,9 @@ fill-requires : tie.Need-fill-requires Inv-loop μ-loop
 fill-requires c κs = omega arith
 
 loop-holds : tie.Need-loop-holds Inv-loop μ-loop
-loop-holds c = (omega arith, refl, empty-given (c .before .before .before .before .before .before .args .table) (c .before .before .before .before .before .before .args .k) (c .before .before .before .before .before .before .args .n) (c .before .before .before .before .before .before .args .w .now) _ (c .before .before .before .before .before .before .pre .0) (c .before .before .fill .ensures))
+loop-holds c =
+    let a = c .before .before .before .before .before .before .args in
+    (omega arith, refl, empty-given (a .table) (a .k) (a .n) (a .w .now) _ (c .before .before .before .before .before .before .pre .0) (c .before .before .fill .ensures))
 
 grant-at-requires : tie.Need-grant-at-requires Inv-loop μ-loop
 grant-at-requires c κs = omega arith
@@ -69,15 +70,20 @@ loop-less : tie.Need-loop-less Inv-loop μ-loop
 loop-less c = omega arith
 
 loop-again : tie.Need-loop-again Inv-loop μ-loop
-loop-again c = let e = turned c in (omega arith, ap length e ∙ length-putSet _ _ _ _ (omega (arith, filled-room c)), e)
+loop-again c =
+    let e = turned c in
+    (omega arith, ap length e ∙ length-putSet _ _ _ _ (omega (arith, filled-room c)), e)
 
 same-length : tie.Need-same-length Inv-loop μ-loop
-same-length c = c .before .loop .inv .1 ∙ empty-length (c .before .before .before .before .before .before .before .before .args .table) (c .before .before .before .before .before .before .before .before .args .k) (c .before .before .before .before .before .before .before .before .args .n) (c .before .before .before .before .before .before .before .before .args .w .now) _ (c .before .before .before .before .before .before .before .before .pre .0) (c .before .before .before .before .fill .ensures)
+same-length c =
+    let a = c .before .before .before .before .before .before .before .before .args in
+    c .before .loop .inv .1 ∙ empty-length (a .table) (a .k) (a .n) (a .w .now) _ (c .before .before .before .before .before .before .before .before .pre .0) (c .before .before .before .before .fill .ensures)
 
 returns : tie.Need-returns Inv-loop μ-loop
-returns c = let a = c .before .before .before .before .before .before .before .before .args in
-    all-given (a .table) (a .k) (a .n) (a .w .now) _ (c .before .before .before .before .before .before .before .before .pre .0) (c .before .before .before .before .fill .ensures) (a .grants) (c .before .loop .w)
-    (c .before .loop .inv .2 ∙ ap (λ i. putSet (a .k) (a .n) (given (a .table) i (c .before .before .before .before .fill .last .0)) (c .before .before .before .before .fill .last .0)) (le-antisymm (c .before .loop .inv .0) (c .loop-test .left)))
+returns c =
+    let a = c .before .before .before .before .before .before .before .before .args in
+    let l = c .before .loop in
+    all-given (a .table) (a .k) (a .n) (a .w .now) _ (c .before .before .before .before .before .before .before .before .pre .0) (c .before .before .before .before .fill .ensures) (l .i) (a .grants) (l .w) (l .inv .0) (c .loop-test .left) (l .inv .2)
 
 pub fill-here-spec : {M : Type 1} → statement M
 fill-here-spec =

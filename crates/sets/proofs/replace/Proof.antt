@@ -1,10 +1,9 @@
 -- `sets::replace` meets its contract: after x turns x answers of set k are replaced.
-use mathlib.Core.Path.{_≡_, refl, ap, _∙_}
+use mathlib.Core.Path.{_≡_, refl, _∙_}
 use Prim.Native.Nat.{_-_, _≤_}
-use native.Mathlib.Nat.{le-antisymm}
 use lib.ListN.{length, set, length-set}
 use Rattle.sets.specs.Sets.{putSet, replaced}
-use Rattle.sets.proofs.Sets.{overridden-of, putSet-none, putSet-more, threefold, reads-first, reads-second, reads-third}
+use Rattle.sets.proofs.Sets.{overridden-of, putSet-none, putSet-more, putSet-done, threefold, reads-first, reads-second, reads-third}
 use native.Mathlib.Omega.{arith}
 use Rattle.sets.proofs.replace.Statement.{statement}
 use Rattle.sets.proofs.replace.Tie as tie
@@ -25,7 +24,7 @@ add-third : tie.Need-add-third Inv-loop μ-loop
 add-third c = omega arith
 
 loop-holds : tie.Need-loop-holds Inv-loop μ-loop
-loop-holds c = (omega arith, refl, putSet-none (c .before .args .k) (threefold (c .before .args .k) (c .before .args .w .now)) (c .before .args .w .now) (omega arith))
+loop-holds c = (omega arith, refl, putSet-none _ _ _ (omega arith))
 
 add-p : tie.Need-add-p Inv-loop μ-loop
 add-p c = omega arith
@@ -75,7 +74,9 @@ same-length : tie.Need-same-length Inv-loop μ-loop
 same-length c = c .before .loop .inv .1
 
 returns : tie.Need-returns Inv-loop μ-loop
-returns c = c .before .loop .inv .2 ∙ ap (λ n. putSet (c .before .before .before .args .k) n (threefold (c .before .before .before .args .k) (c .before .before .before .args .w .now)) (c .before .before .before .args .w .now)) (le-antisymm (c .before .loop .inv .0) (c .loop-test .left))
+returns c =
+    let a = c .before .before .before .args in
+    putSet-done (a .k) (c .before .loop .x) (a .n) (threefold (a .k) (a .w .now)) (a .w .now) (c .before .loop .w) (c .before .loop .inv .0) (c .loop-test .left) (c .before .loop .inv .2)
 
 pub replace-spec : {M : Type 1} → statement M
 replace-spec =

@@ -50,7 +50,9 @@ member-requires c κs = tt
 
 passes-requires :
     tie.Need-passes-requires Inv-actions μ-actions Inv-objects μ-objects Inv-subjects μ-subjects
-passes-requires c κs = let a = c .before .before .before .before .before .before .before .before .before .args in (c .before .before .before .before .before .before .before .before .before .pre .0 .2, (c .before .before .before .before .before .before .before .before .before .pre .1 .0, omega (arith, member-small (storedSort (a .c .sort)) (a .z) _ _ _ (c .before .before .before .before .before .before .before .before .before .pre .0 .1) (c .before .before .before .before .before .subjects-test .taken) (c .before .before .before .objects-test .taken) (c .before .actions-test .taken), c .member .ensures)))
+passes-requires c κs =
+    let a = c .before .before .before .before .before .before .before .before .before .args in
+    (c .before .before .before .before .before .before .before .before .before .pre .0 .2, (c .before .before .before .before .before .before .before .before .before .pre .1 .0, omega (arith, member-small (storedSort (a .c .sort)) (a .z) _ _ _ (c .before .before .before .before .before .before .before .before .before .pre .0 .1) (c .before .before .before .before .before .subjects-test .taken) (c .before .before .before .objects-test .taken) (c .before .actions-test .taken), c .member .ensures)))
 
 access-requires :
     tie.Need-access-requires Inv-actions μ-actions Inv-objects μ-objects Inv-subjects μ-subjects
@@ -83,17 +85,21 @@ actions-less c = omega arith
 
 actions-again :
     tie.Need-actions-again Inv-actions μ-actions Inv-objects μ-objects Inv-subjects μ-subjects
-actions-again c = let a = c .before .before .before .before .before .before .before .before .before .before .before .before .before .args in let s = c .before .before .before .before .before .before .before .before .before .before .subjects .s in let o = c .before .before .before .before .before .before .before .before .objects .o in let l = c .before .before .before .before .before .before .actions in (
-  omega arith,
-  length-set (l .w) _ _ ∙ l .inv .1,
-  λ fr d sh nm.
-      let n = number (a .z .objects) (a .z .actions) s o (l .a) in
-      let p = part-member fr (a .z) d s o (l .a) (c .before .before .before .before .before .before .before .before .before .subjects-test .taken) (c .before .before .before .before .before .before .before .objects-test .taken) (c .before .before .before .before .before .actions-test .taken) (storedSort (a .c .sort)) in
-      let q = member-lt fr (a .z) d s o (l .a) (c .before .before .before .before .before .before .before .before .before .subjects-test .taken) (c .before .before .before .before .before .before .before .objects-test .taken) (c .before .before .before .before .before .actions-test .taken) (storedSort (a .c .sort)) in
-      keep-turn (inScope fr (storedScope (a .c))) (a .k) n _ (l .w) _ _ (c .before .before .access .ensures .0)
-      (c .before .before .before .passes .ensures fr n sh nm (p ∙ sym (c .before .before .before .before .member .ensures)) (rw (c .before .before .before .before .member .ensures) q)) (c .scoped .ensures)
-      ∙ turns-more (l .a) (byAction (inScope fr (storedScope (a .c))) (a .k) (a .z) s o) _ (l .inv .2 fr d sh nm),
-)
+actions-again c =
+    let a = c .before .before .before .before .before .before .before .before .before .before .before .before .before .args in
+    let s = c .before .before .before .before .before .before .before .before .before .before .subjects .s in
+    let o = c .before .before .before .before .before .before .before .before .objects .o in
+    let l = c .before .before .before .before .before .before .actions in (
+      omega arith,
+      length-set (l .w) _ _ ∙ l .inv .1,
+      λ fr d sh nm.
+          let n = number (a .z .objects) (a .z .actions) s o (l .a) in
+          let p = part-member fr (a .z) d s o (l .a) (c .before .before .before .before .before .before .before .before .before .subjects-test .taken) (c .before .before .before .before .before .before .before .objects-test .taken) (c .before .before .before .before .before .actions-test .taken) (storedSort (a .c .sort)) in
+          let q = member-lt fr (a .z) d s o (l .a) (c .before .before .before .before .before .before .before .before .before .subjects-test .taken) (c .before .before .before .before .before .before .before .objects-test .taken) (c .before .before .before .before .before .actions-test .taken) (storedSort (a .c .sort)) in
+          keep-turn (inScope fr (storedScope (a .c))) (a .k) n _ (l .w) _ _ (c .before .before .access .ensures .0)
+          (c .before .before .before .passes .ensures fr n sh nm (p ∙ sym (c .before .before .before .before .member .ensures)) (rw (c .before .before .before .before .member .ensures) q)) (c .scoped .ensures)
+          ∙ turns-more (l .a) (byAction (inScope fr (storedScope (a .c))) (a .k) (a .z) s o) _ (l .inv .2 fr d sh nm),
+    )
 
 add-o : tie.Need-add-o Inv-actions μ-actions Inv-objects μ-objects Inv-subjects μ-subjects
 add-o c = omega arith
@@ -104,13 +110,16 @@ objects-less c = omega arith
 
 objects-again :
     tie.Need-objects-again Inv-actions μ-actions Inv-objects μ-objects Inv-subjects μ-subjects
-objects-again c = let a = c .before .before .before .before .before .before .before .before .args in let s = c .before .before .before .before .before .subjects .s in let l = c .before .before .before .objects in (
-  omega arith,
-  c .before .actions .inv .1 ∙ l .inv .1,
-  λ fr d sh nm.
-      turns-done (byAction (inScope fr (storedScope (a .c))) (a .k) (a .z) s (l .o)) _ (c .before .actions .inv .0) (c .actions-test .left) (c .before .actions .inv .2 fr d sh nm)
-      ∙ turns-more (l .o) (byObject (inScope fr (storedScope (a .c))) (a .k) (a .z) s) _ (l .inv .2 fr d sh nm),
-)
+objects-again c =
+    let a = c .before .before .before .before .before .before .before .before .args in
+    let s = c .before .before .before .before .before .subjects .s in
+    let l = c .before .before .before .objects in (
+      omega arith,
+      c .before .actions .inv .1 ∙ l .inv .1,
+      λ fr d sh nm.
+          turns-done (byAction (inScope fr (storedScope (a .c))) (a .k) (a .z) s (l .o)) _ (c .before .actions .inv .0) (c .actions-test .left) (c .before .actions .inv .2 fr d sh nm)
+          ∙ turns-more (l .o) (byObject (inScope fr (storedScope (a .c))) (a .k) (a .z) s) _ (l .inv .2 fr d sh nm),
+    )
 
 add-s : tie.Need-add-s Inv-actions μ-actions Inv-objects μ-objects Inv-subjects μ-subjects
 add-s c = omega arith
@@ -121,13 +130,15 @@ subjects-less c = omega arith
 
 subjects-again :
     tie.Need-subjects-again Inv-actions μ-actions Inv-objects μ-objects Inv-subjects μ-subjects
-subjects-again c = let a = c .before .before .before .before .before .before .args in let l = c .before .before .before .subjects in (
-  omega arith,
-  c .before .objects .inv .1 ∙ l .inv .1,
-  λ fr d sh nm.
-      turns-done (byObject (inScope fr (storedScope (a .c))) (a .k) (a .z) (l .s)) _ (c .before .objects .inv .0) (c .objects-test .left) (c .before .objects .inv .2 fr d sh nm)
-      ∙ turns-more (l .s) (bySubject (inScope fr (storedScope (a .c))) (a .k) (a .z)) _ (l .inv .2 fr d sh nm),
-)
+subjects-again c =
+    let a = c .before .before .before .before .before .before .args in
+    let l = c .before .before .before .subjects in (
+      omega arith,
+      c .before .objects .inv .1 ∙ l .inv .1,
+      λ fr d sh nm.
+          turns-done (byObject (inScope fr (storedScope (a .c))) (a .k) (a .z) (l .s)) _ (c .before .objects .inv .0) (c .objects-test .left) (c .before .objects .inv .2 fr d sh nm)
+          ∙ turns-more (l .s) (bySubject (inScope fr (storedScope (a .c))) (a .k) (a .z)) _ (l .inv .2 fr d sh nm),
+    )
 
 same-length :
     tie.Need-same-length Inv-actions μ-actions Inv-objects μ-objects Inv-subjects μ-subjects
