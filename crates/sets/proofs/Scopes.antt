@@ -1,9 +1,11 @@
 -- Laws of scopes: what the tables say of a member, and a walk over the accesses.
 use mathlib.Core.Path.{_≡_, refl, sym, ap, subst, _∙_}
-use mathlib.Core.Bool.{Bool, true, false, cond, not, _&&_}
+use mathlib.Core.Bool.{Bool, true, false, cond, not, _&&_, and-true, and-false}
 use mathlib.Core.List.{List}
+use mathlib.Core.Option.{Option}
 use Prim.Native.Nat.{ℕ, zero, suc, _+_, _*_, _≤_, _<_}
 use native.Mathlib.Numerals.{add-one}
+use native.Mathlib.Decide.{ℕ-discrete}
 use native.Mathlib.Omega.{arith}
 use lib.Dec.{eqb}
 use lib.ListN.{length, getD, set}
@@ -13,11 +15,13 @@ use Rattle.algebra.specs.Answer.{Answer, byte, keep}
 use Rattle.algebra.specs.Order.{Op, le, ge, lt, gt, eq, below, compares}
 use Rattle.algebra.specs.Policy.{Frame, compared, marked, parents, members, accesses, number, part, isMarked, inScope}
 use Rattle.algebra.specs.Stored.{storedSort, storedOp}
+use Rattle.algebra.specs.StoredFrame.{total, Sized, orderAt, orderByte, Stands}
 use Rattle.algebra.specs.declared.Counts.{Counts}
 use Rattle.algebra.proofs.Answer.{byte-keep}
+use Rattle.algebra.proofs.Order.{le-self, gt-reversed}
 use Rattle.algebra.proofs.Number.{part-subject, part-object, part-action}
 use Rattle.sets.specs.Sets.{Answers, byteAt, answerAt, putSet}
-use Rattle.sets.specs.Scopes.{storedScope, Coded, Names, accessesOf, Small, memberOf, tableOf, flag, Sized, Shown}
+use Rattle.sets.specs.Scopes.{storedScope, Coded, Names, memberOf}
 use Rattle.sets.specs.declared.StoredScope.{StoredScope}
 use Rattle.sets.proofs.Sets.{byte-answerOf, putSet-none, putSet-more, unreached}
 use Rattle.sets.proofs.Turns.{turns, turns-three}
@@ -36,34 +40,55 @@ pub member-action : (n s o a : ℕ) → (n ≡ 0 → ⊥) → (n ≡ 1 → ⊥) 
 unfolding storedSort
 member-action n s o a h h′ = rw (ne-eqb n 0 h, storedSort, ne-eqb n 1 h′, storedSort) refl
 
-pub member-small : (σ : Sort) (z : Counts) (s o a : ℕ) → Small z → s < z .subjects → o < z .objects → a < z .actions → memberOf σ s o a < 64
-member-small subject z s o a h p q r = omega arith
-member-small object z s o a h p q r = omega arith
-member-small action z s o a h p q r = omega arith
+pub member-small : (σ : Sort) (z : Counts) (s o a : ℕ) → Sized z → s < z .subjects → o < z .objects → a < z .actions → memberOf σ s o a < 64
+member-small subject z s o a h p q r = omega (arith, h .most subject)
+member-small object z s o a h p q r = omega (arith, h .most object)
+member-small action z s o a h p q r = omega (arith, h .most action)
 
-module _ (fr : Frame) (z : Counts) (d : Sized fr z) (s o a : ℕ) (p : s < z .subjects) (q : o < z .objects) (r : a < z .actions) where
+module _ (fr : Frame) (z : Counts) (t : List ℕ) (d : Stands fr z t) (s o a : ℕ) (p : s < z .subjects) (q : o < z .objects) (r : a < z .actions) where
   pub member-lt : (σ : Sort) → memberOf σ s o a < members fr σ
-  member-lt subject = rw (d .subjects) at p
-  member-lt object = rw (d .objects) at q
-  member-lt action = rw (d .actions) at r
+  member-lt subject = rw (d .counts subject) p
+  member-lt object = rw (d .counts object) q
+  member-lt action = rw (d .counts action) r
 
   pub part-member : (σ : Sort) → part fr σ (number (z .objects) (z .actions) s o a) ≡ memberOf σ s o a
-  part-member subject = rw (d .objects, d .actions) (part-subject fr s o a (member-lt object) (member-lt action))
-  part-member object = rw (d .objects, d .actions) (part-object fr s o a (member-lt object) (member-lt action))
-  part-member action = rw (d .objects, d .actions) (part-action fr s o a (member-lt action))
+  part-member subject = rw (← d .counts object, ← d .counts action) (part-subject fr s o a (member-lt object) (member-lt action))
+  part-member object = rw (← d .counts object, ← d .counts action) (part-object fr s o a (member-lt object) (member-lt action))
+  part-member action = rw (← d .counts object, ← d .counts action) (part-action fr s o a (member-lt action))
 
 -- ---- what the tables say
 
-table-at : (n : ℕ) → n ≤ 2 → n * 4096 ≡ tableOf (storedSort n)
+table-at : (n : ℕ) → n ≤ 2 → n * 4096 ≡ orderAt (storedSort n)
 unfolding storedSort
 table-at zero h = refl
 table-at (suc zero) h = refl
 table-at (suc (suc zero)) h = refl
 table-at (suc (suc (suc n))) h = absurd (omega arith)
 
-flag-test : (b : Bool) → eqb (flag b) 1 ≡ b
-flag-test true = refl
-flag-test false = refl
+flag-one : (b : Bool) → eqb (cond b 1 0) 1 ≡ b
+flag-one true = refl
+flag-one false = refl
+
+flag-some : (b : Bool) → not (eqb (cond b 1 0) 0) ≡ b
+flag-some true = refl
+flag-some false = refl
+
+-- the byte of the order says whether x le y, and whether x lt y
+order-le : (ps : List (Option ℕ)) (x y : ℕ) → not (eqb (orderByte ps x y) 0) ≡ below ps x y
+unfolding orderByte compares
+order-le ps x y = go (ℕ-discrete x y)
+  where
+    go : Dec (x ≡ y) → not (eqb (orderByte ps x y) 0) ≡ below ps x y
+    go (yes e) = rw (eq-eqb x y e, orderByte) (sym (subst (λ z. below ps x z ≡ true) e (le-self ps x)))
+    go (no n) = rw (ne-eqb x y n, orderByte) (flag-some (below ps x y))
+
+order-lt : (ps : List (Option ℕ)) (x y : ℕ) → eqb (orderByte ps x y) 1 ≡ (below ps x y && not (eqb x y))
+unfolding orderByte
+order-lt ps x y = go (ℕ-discrete x y)
+  where
+    go : Dec (x ≡ y) → eqb (orderByte ps x y) 1 ≡ (below ps x y && not (eqb x y))
+    go (yes e) = rw (eq-eqb x y e, orderByte) (sym (and-false (below ps x y)))
+    go (no n) = rw (ne-eqb x y n, orderByte) (flag-one (below ps x y) ∙ sym (and-true (below ps x y)))
 
 stored-mark : (c : StoredScope) → c .kind ≡ 6 → storedScope c ≡ marked (storedSort (c .sort)) (c .x)
 unfolding storedScope
@@ -73,7 +98,7 @@ stored-compared : (c : StoredScope) → (c .kind ≡ 6 → ⊥) → storedScope 
 unfolding storedScope
 stored-compared c e = rw (ne-eqb (c .kind) 6 e, storedScope)
 
-module _ (t : List ℕ) (c : StoredScope) (ok : Coded c) (m : ℕ) (fr : Frame) (y : ℕ) (sh : Shown fr t) (nm : Names fr (storedScope c)) (pt : part fr (storedSort (c .sort)) y ≡ m) (less : m < members fr (storedSort (c .sort))) where
+module _ (t : List ℕ) (c : StoredScope) (ok : Coded c) (m : ℕ) (fr : Frame) (z : Counts) (y : ℕ) (st : Stands fr z t) (nm : Names fr (storedScope c)) (pt : part fr (storedSort (c .sort)) y ≡ m) (less : m < members fr (storedSort (c .sort))) where
   -- a comparison
   module _ (op : Op) (is-op : storedOp (c .kind) ≡ op) (no-mark : c .kind ≡ 6 → ⊥) where
     is-compared : storedScope c ≡ compared (storedSort (c .sort)) op (c .x)
@@ -87,50 +112,52 @@ module _ (t : List ℕ) (c : StoredScope) (ok : Coded c) (m : ℕ) (fr : Frame) 
     unfolding inScope
     in-compared = ap (λ m. compares (parents fr (storedSort (c .sort))) op m (c .x)) (sym pt) ∙ ap (λ s. inScope fr s y) (sym is-compared)
 
-    -- the member is le the scope's; n is the scope's sort and b the byte's test
-    up : (n : ℕ) (b : Bool) → n ≡ c .sort → b ≡ eqb (getD t (n * 4096 + m * 64 + c .x) 0) 1 → b ≡ below (parents fr (storedSort (c .sort))) m (c .x)
-    up n b e q =
-        q ∙ ap (λ i. eqb (getD t (i + m * 64 + c .x) 0) 1) (ap (λ n. n * 4096) e ∙ table-at (c .sort) (ok .last-sort)) ∙ ap (λ v. eqb v 1) (sh .order (storedSort (c .sort)) m (c .x) less x-lt)
-        ∙ flag-test _
+    -- the byte of the member against the scope's; n is the scope's sort
+    up : (n b : ℕ) → n ≡ c .sort → b ≡ getD t (n * 4096 + m * 64 + c .x) 0 → b ≡ orderByte (parents fr (storedSort (c .sort))) m (c .x)
+    up n b e q = q ∙ ap (λ i. getD t (i + m * 64 + c .x) 0) (ap (λ n. n * 4096) e ∙ table-at (c .sort) (ok .last-sort)) ∙ st .orders (storedSort (c .sort)) m (c .x) less x-lt
 
-    -- the scope's is le the member
-    down : (n : ℕ) (b : Bool) → n ≡ c .sort → b ≡ eqb (getD t (n * 4096 + c .x * 64 + m) 0) 1 → b ≡ below (parents fr (storedSort (c .sort))) (c .x) m
-    down n b e q =
-        q ∙ ap (λ i. eqb (getD t (i + c .x * 64 + m) 0) 1) (ap (λ n. n * 4096) e ∙ table-at (c .sort) (ok .last-sort)) ∙ ap (λ v. eqb v 1) (sh .order (storedSort (c .sort)) (c .x) m x-lt less)
-        ∙ flag-test _
+    -- and of the scope's against the member
+    down : (n b : ℕ) → n ≡ c .sort → b ≡ getD t (n * 4096 + c .x * 64 + m) 0 → b ≡ orderByte (parents fr (storedSort (c .sort))) (c .x) m
+    down n b e q = q ∙ ap (λ i. getD t (i + c .x * 64 + m) 0) (ap (λ n. n * 4096) e ∙ table-at (c .sort) (ok .last-sort)) ∙ st .orders (storedSort (c .sort)) (c .x) m x-lt less
 
-  -- the five comparisons and the predicate, r being what the code returns
-  pub passes-le : (n : ℕ) (r : Bool) → n ≡ c .sort → r ≡ eqb (getD t (n * 4096 + m * 64 + c .x) 0) 1 → c .kind ≡ 1 → r ≡ inScope fr (storedScope c) y
+  -- the five comparisons and the predicate, b being the byte that the code reads
+  pub passes-le : (n b : ℕ) → n ≡ c .sort → b ≡ getD t (n * 4096 + m * 64 + c .x) 0 → c .kind ≡ 1 → not (eqb b 0) ≡ inScope fr (storedScope c) y
   unfolding storedOp compares
-  passes-le n r e q k = let o : storedOp (c .kind) ≡ le = rw k refl in let no : c .kind ≡ 6 → ⊥ = λ h. omega arith in up le o no n r e q ∙ in-compared le o no
+  passes-le n b e q k =
+      let o : storedOp (c .kind) ≡ le = rw k refl in
+      let no : c .kind ≡ 6 → ⊥ = λ h. omega arith in
+      ap (λ v. not (eqb v 0)) (up le o no n b e q) ∙ order-le _ m (c .x) ∙ in-compared le o no
 
-  pub passes-ge : (n : ℕ) (r : Bool) → n ≡ c .sort → r ≡ eqb (getD t (n * 4096 + c .x * 64 + m) 0) 1 → c .kind ≡ 2 → r ≡ inScope fr (storedScope c) y
+  pub passes-ge : (n b : ℕ) → n ≡ c .sort → b ≡ getD t (n * 4096 + c .x * 64 + m) 0 → c .kind ≡ 2 → not (eqb b 0) ≡ inScope fr (storedScope c) y
   unfolding storedOp compares
-  passes-ge n r e q k = let o : storedOp (c .kind) ≡ ge = rw k refl in let no : c .kind ≡ 6 → ⊥ = λ h. omega arith in down ge o no n r e q ∙ in-compared ge o no
+  passes-ge n b e q k =
+      let o : storedOp (c .kind) ≡ ge = rw k refl in
+      let no : c .kind ≡ 6 → ⊥ = λ h. omega arith in
+      ap (λ v. not (eqb v 0)) (down ge o no n b e q) ∙ order-le _ (c .x) m ∙ in-compared ge o no
 
-  pub passes-lt : (n : ℕ) (b r : Bool) → n ≡ c .sort → b ≡ eqb (getD t (n * 4096 + m * 64 + c .x) 0) 1 → r ≡ (b && not (eqb m (c .x))) → c .kind ≡ 3 → r ≡ inScope fr (storedScope c) y
+  pub passes-lt : (n b : ℕ) → n ≡ c .sort → b ≡ getD t (n * 4096 + m * 64 + c .x) 0 → c .kind ≡ 3 → eqb b 1 ≡ inScope fr (storedScope c) y
   unfolding storedOp compares
-  passes-lt n b r e q d k =
+  passes-lt n b e q k =
       let o : storedOp (c .kind) ≡ lt = rw k refl in
       let no : c .kind ≡ 6 → ⊥ = λ h. omega arith in
-      d ∙ ap (λ b. b && not (eqb m (c .x))) (up lt o no n b e q) ∙ in-compared lt o no
+      ap (λ v. eqb v 1) (up lt o no n b e q) ∙ order-lt _ m (c .x) ∙ in-compared lt o no
 
-  pub passes-gt : (n : ℕ) (b r : Bool) → n ≡ c .sort → b ≡ eqb (getD t (n * 4096 + c .x * 64 + m) 0) 1 → r ≡ (b && not (eqb m (c .x))) → c .kind ≡ 4 → r ≡ inScope fr (storedScope c) y
+  pub passes-gt : (n b : ℕ) → n ≡ c .sort → b ≡ getD t (n * 4096 + c .x * 64 + m) 0 → c .kind ≡ 4 → eqb b 1 ≡ inScope fr (storedScope c) y
   unfolding storedOp compares
-  passes-gt n b r e q d k =
+  passes-gt n b e q k =
       let o : storedOp (c .kind) ≡ gt = rw k refl in
       let no : c .kind ≡ 6 → ⊥ = λ h. omega arith in
-      d ∙ ap (λ b. b && not (eqb m (c .x))) (down gt o no n b e q) ∙ in-compared gt o no
+      ap (λ v. eqb v 1) (down gt o no n b e q) ∙ order-lt _ (c .x) m ∙ sym (gt-reversed _ m (c .x)) ∙ in-compared gt o no
 
   pub passes-eq : c .kind ≡ 5 → eqb m (c .x) ≡ inScope fr (storedScope c) y
   unfolding storedOp compares
   passes-eq k = let o : storedOp (c .kind) ≡ eq = rw k refl in let no : c .kind ≡ 6 → ⊥ = λ h. omega arith in in-compared eq o no
 
-  pub passes-mark : (r : Bool) → r ≡ eqb (getD t (12288 + c .x * 64 + m) 0) 1 → c .kind ≡ 6 → r ≡ inScope fr (storedScope c) y
+  pub passes-mark : (b : ℕ) → b ≡ getD t (12288 + c .x * 64 + m) 0 → c .kind ≡ 6 → eqb b 1 ≡ inScope fr (storedScope c) y
   unfolding inScope Names
-  passes-mark r q k =
+  passes-mark b q k =
       let e : storedScope c ≡ marked (storedSort (c .sort)) (c .x) = stored-mark c k in
-      q ∙ ap (λ v. eqb v 1) (sh .marks (storedSort (c .sort)) (c .x) m (subst (Names fr) e nm) less) ∙ flag-test _ ∙ ap (isMarked fr (storedSort (c .sort)) (c .x)) (sym pt) ∙ ap (λ s. inScope fr s y) (sym e)
+      ap (λ v. eqb v 1) (q ∙ st .marks (storedSort (c .sort)) (c .x) m (subst (Names fr) e nm) less) ∙ flag-one _ ∙ ap (isMarked fr (storedSort (c .sort)) (c .x)) (sym pt) ∙ ap (λ s. inScope fr s y) (sym e)
 
 -- ---- a walk over the accesses
 
@@ -162,10 +189,10 @@ bySubject p k z s = turns (z .objects) (byObject p k z s)
 
 -- what is said of each frame that the counts and the tables stand for, and that has what the scope names
 abbrev pub Each : Counts → List ℕ → StoredScope → ((ℕ → Bool) → Type 0) → Type 0
-Each z t c P = (fr : Frame) → Sized fr z → Shown fr t → Names fr (storedScope c) → P (inScope fr (storedScope c))
+Each z t c P = (fr : Frame) → Stands fr z t → Names fr (storedScope c) → P (inScope fr (storedScope c))
 
-pub walked : (fr : Frame) (k : ℕ) (z : Counts) (p : ℕ → Bool) (w : List ℕ) → Sized fr z → k * 4096 + accessesOf z ≤ length w → Answers k (accessesOf z) w
+pub walked : (fr : Frame) (k : ℕ) (z : Counts) (t : List ℕ) (p : ℕ → Bool) (w : List ℕ) → Stands fr z t → k * 4096 + total z ≤ length w → Answers k (total z) w
     → turns (z .subjects) (bySubject p k z) w ≡ putSet k (accesses fr) (λ x. keep (p x) (answerAt k w x)) w
-walked fr k z p w d fits ans =
-    turns-three (z .subjects) (z .objects) (z .actions) (keepAt p k) w ∙ kept p k (accessesOf z) w fits ans (accessesOf z) (omega arith)
-    ∙ ap (λ n. putSet k n (λ x. keep (p x) (answerAt k w x)) w) (rw (d .subjects, d .objects, d .actions) refl)
+walked fr k z t p w d fits ans =
+    turns-three (z .subjects) (z .objects) (z .actions) (keepAt p k) w ∙ kept p k (total z) w fits ans (total z) (omega arith)
+    ∙ ap (λ n. putSet k n (λ x. keep (p x) (answerAt k w x)) w) (rw (d .counts subject, d .counts object, d .counts action) refl)

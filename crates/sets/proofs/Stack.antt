@@ -9,7 +9,7 @@ use lib.Dec.{eqb}
 use lib.ListN.{length, getD, take, drop, length-take, length-drop, length-map, List·getD-map}
 use lib.Seq.{ext-getD, getD-take, getD-drop}
 use Rattle.algebra.specs.Lists.{any, tab}
-use Rattle.algebra.specs.Answer.{Answer, deny, undecided, permit, byte, keep, sure, _⊔_, _⊓_, _⊖_}
+use Rattle.algebra.specs.Answer.{Answer, deny, undecided, permit, byte, answerOf, keep, sure, _⊔_, _⊓_, _⊖_}
 use Rattle.algebra.specs.Rounds.{Clause, iter, used}
 use Rattle.algebra.specs.Algebra.{Model, permits}
 use Rattle.algebra.specs.Program.{table-step, plus-step, both-step, minus-step, override-step, scope-step, closure-step}
@@ -21,7 +21,7 @@ use Rattle.algebra.proofs.Rounds.{length-iter}
 use Rattle.algebra.proofs.Algebra.{length-permits}
 use Rattle.algebra.proofs.Program.{one}
 use Rattle.sets.specs.Bytes.{put}
-use Rattle.sets.specs.Sets.{answerOf, byteAt, answerAt, setAt, putSet, Answers, operation, replaced, Stack, no-set, set-on}
+use Rattle.sets.specs.Sets.{byteAt, answerAt, setAt, putSet, Answers, operation, replaced, Stack, no-set, set-on}
 use Rattle.sets.specs.Grants.{grantsOf}
 use Rattle.sets.proofs.Sets.{answerOf-byte, length-putSet, putSet-low, putSet-at, putSet-high, putSet-cong}
 

@@ -1,4 +1,4 @@
--- The definitions that the contracts cite: bytes in lent memory, the sets of answers and the grants in it, and the tables that scopes are tested by.
+-- The definitions that the contracts cite: bytes in lent memory, the sets of answers and the grants in it, and scopes as the code holds them.
 pub mod Bytes
 pub mod Sets
 pub mod Grants

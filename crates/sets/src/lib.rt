@@ -10,18 +10,19 @@ use algebra::overridden;
 use algebra::scoped;
 use algebra::smaller;
 ghost use mathlib.Core.Path.{_≡_};
-ghost use mathlib.Core.Bool.{_&&_};
 ghost use Prim.Native.Nat.{ℕ, _+_, _*_, _≤_, _<_};
 ghost use lib.Dec.{eqb};
 ghost use lib.ListN.{length, getD, take};
 ghost use Rattle.algebra.specs.Lists.{any, tab};
-ghost use Rattle.algebra.specs.Answer.{undecided, byte, keep, sure};
+ghost use Rattle.algebra.specs.Answer.{undecided, byte, answerOf, keep, sure};
 ghost use Rattle.algebra.specs.Policy.{Frame, members, accesses, part, inScope};
 ghost use Rattle.algebra.specs.Stored.{storedSort};
+ghost use Rattle.algebra.specs.StoredFrame.{total, Sized, Stands};
+ghost use Rattle.algebra.specs.declared.Counts.{Counts};
 ghost use Rattle.sets.specs.Bytes.{put, written, cleared, tally};
-ghost use Rattle.sets.specs.Sets.{answerOf, answerAt, putSet, Room, Answers, operation, replaced};
+ghost use Rattle.sets.specs.Sets.{answerAt, putSet, Room, Answers, operation, replaced};
 ghost use Rattle.sets.specs.Grants.{grantAt, grantsOf};
-ghost use Rattle.sets.specs.Scopes.{storedScope, Coded, Names, accessesOf, Small, memberOf, Sized, Shown};
+ghost use Rattle.sets.specs.Scopes.{storedScope, Coded, Names, memberOf};
 
 // A scope as the code holds it. Kinds 1 to 5: a member le, ge, lt, gt or eq the member x, in the sort 0, 1 or 2. Kind 6: the predicate x.
 pub struct StoredScope {
@@ -151,19 +152,13 @@ fn member(sort: u8, s: Subject, o: Object, a: Action) -> u8
     a.0
 }
 
-// Whether the byte at row x and column y is 1, in the table that begins at `at`.
-fn flagged(t: &[u8], at: usize, x: u8, y: u8) -> bool
+// The byte at row x and column y of the table that begins at `at`.
+fn entry(t: &[u8], at: usize, x: u8, y: u8) -> u8
     requires { ⌜ (length (now t) ≡ 16384) × (at ≤ 12288) × (x < 64) × (y < 64) ⌝ }
-    ensures { λ r. ⌜ r ≡ eqb (getD (now (t .entry)) (at + x * 64 + y) 0) 1 ⌝ }
+    ensures { λ r. ⌜ r ≡ getD (now (t .entry)) (at + x * 64 + y) 0 ⌝ }
 {
     let i = at + wide(x) * 64 + wide(y);
-    t[i] == 1
-}
-
-fn both(x: bool, y: bool) -> bool
-    ensures { λ r. ⌜ r ≡ (x && y) ⌝ }
-{
-    if x { y } else { false }
+    t[i]
 }
 
 // Whether a scope holds the accesses of the member m of its sort.
@@ -171,33 +166,33 @@ fn passes(t: &[u8], c: StoredScope, m: u8) -> bool
     requires { ⌜ length (now t) ≡ 16384 ⌝ }
     requires { ⌜ Coded c ⌝ }
     requires { ⌜ m < 64 ⌝ }
-    ensures { λ r. ⌜ ((fr : Frame) (x : ℕ) → Shown fr (now (t .entry)) → Names fr (storedScope c) → part fr (storedSort (c .sort)) x ≡ m → m < members fr (storedSort (c .sort)) → r ≡ inScope fr (storedScope c) x) ⌝ }
+    ensures { λ r. ⌜ ((fr : Frame) (n : Counts) (x : ℕ) → Stands fr n (now (t .entry)) → Names fr (storedScope c) → part fr (storedSort (c .sort)) x ≡ m → m < members fr (storedSort (c .sort)) → r ≡ inScope fr (storedScope c) x) ⌝ }
 {
     let table = wide(c.sort) * 4096;
     if c.kind == 1 {
-        return flagged(t, table, m, c.x);
+        return entry(t, table, m, c.x) != 0;
     }
     if c.kind == 2 {
-        return flagged(t, table, c.x, m);
+        return entry(t, table, c.x, m) != 0;
     }
     if c.kind == 3 {
-        return both(flagged(t, table, m, c.x), m != c.x);
+        return entry(t, table, m, c.x) == 1;
     }
     if c.kind == 4 {
-        return both(flagged(t, table, c.x, m), m != c.x);
+        return entry(t, table, c.x, m) == 1;
     }
     if c.kind == 5 {
         return m == c.x;
     }
-    flagged(t, 12288, c.x, m)
+    entry(t, 12288, c.x, m) == 1
 }
 
 // Set k keeps the answers inside a scope, and the others become 0.
 pub fn scope(w: &mut [u8], k: usize, t: &[u8], z: Counts, c: StoredScope)
-    requires { ⌜ Room k (accessesOf z) (now w) × Small z × (length (now t) ≡ 16384) ⌝ }
+    requires { ⌜ Room k (total z) (now w) × Sized z × (length (now t) ≡ 16384) ⌝ }
     requires { ⌜ Coded c ⌝ }
-    requires { ⌜ Answers k (accessesOf z) (now w) ⌝ }
-    ensures { λ _. ⌜ ((fr : Frame) → Sized fr z → Shown fr (now (t .entry)) → Names fr (storedScope c) → now (w .exit) ≡ putSet k (accesses fr) (λ x. keep (inScope fr (storedScope c) x) (answerAt k (now (w .entry)) x)) (now (w .entry))) ⌝ }
+    requires { ⌜ Answers k (total z) (now w) ⌝ }
+    ensures { λ _. ⌜ ((fr : Frame) → Stands fr z (now (t .entry)) → Names fr (storedScope c) → now (w .exit) ≡ putSet k (accesses fr) (λ x. keep (inScope fr (storedScope c) x) (answerAt k (now (w .entry)) x)) (now (w .entry))) ⌝ }
 {
     let at = k * 4096;
     let subjects = z.subjects;

@@ -2,8 +2,8 @@
 use mathlib.Core.Path.{_≡_, refl, ap₂, _∙_}
 use Prim.Native.Nat.{_-_, _≤_}
 use lib.ListN.{length, set, length-set}
-use Rattle.algebra.specs.Answer.{byte}
-use Rattle.sets.specs.Sets.{answerOf, putSet, operation}
+use Rattle.algebra.specs.Answer.{byte, answerOf}
+use Rattle.sets.specs.Sets.{putSet, operation}
 use Rattle.sets.proofs.Sets.{putSet-none, putSet-more, putSet-done, operated, reads-first, reads-second}
 use native.Mathlib.Omega.{arith}
 use Rattle.sets.proofs.combine.Statement.{statement}

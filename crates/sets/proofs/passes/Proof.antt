@@ -11,56 +11,38 @@ wide-requires c κs = search needs
 mul-table : tie.Need-mul-table
 mul-table c = search needs
 
-flagged-requires : tie.Need-flagged-requires
-flagged-requires c κs = search needs
+entry-requires : tie.Need-entry-requires
+entry-requires c κs = search needs
 
 returns : tie.Need-returns
-returns c =
-    let a = c .before .before .before .before .before .args in
-    λ fr x sh nm pt l. passes-le (a .t .now) (a .c) (c .before .before .before .before .before .pre .1 .0) (a .m) fr x sh nm pt l _ _ (c .before .before .before .wide .ensures .0) (c .flagged .ensures) (c .before .if1 .taken)
+returns c = λ fr n x st nm pt l. passes-le (c .before .before .before .before .before .args .t .now) (c .before .before .before .before .before .args .c) (c .before .before .before .before .before .pre .1 .0) (c .before .before .before .before .before .args .m) fr n x st nm pt l _ _ (c .before .before .before .wide .ensures .0) (c .entry .ensures) (c .before .if1 .taken)
 
-flagged-requires-2 : tie.Need-flagged-requires-2
-flagged-requires-2 c κs = search needs
+entry-requires-2 : tie.Need-entry-requires-2
+entry-requires-2 c κs = search needs
 
 returns-2 : tie.Need-returns-2
-returns-2 c =
-    let a = c .before .before .before .before .before .before .before .args in
-    λ fr x sh nm pt l. passes-ge (a .t .now) (a .c) (c .before .before .before .before .before .before .before .pre .1 .0) (a .m) fr x sh nm pt l _ _ (c .before .before .before .before .before .wide .ensures .0) (c .flagged2 .ensures) (c .before .if2 .taken)
+returns-2 c = λ fr n x st nm pt l. passes-ge (c .before .before .before .before .before .before .before .args .t .now) (c .before .before .before .before .before .before .before .args .c) (c .before .before .before .before .before .before .before .pre .1 .0) (c .before .before .before .before .before .before .before .args .m) fr n x st nm pt l _ _ (c .before .before .before .before .before .wide .ensures .0) (c .entry2 .ensures) (c .before .if2 .taken)
 
-flagged-requires-3 : tie.Need-flagged-requires-3
-flagged-requires-3 c κs = search needs
-
-both-requires : tie.Need-both-requires
-both-requires c κs = search needs
+entry-requires-3 : tie.Need-entry-requires-3
+entry-requires-3 c κs = search needs
 
 returns-3 : tie.Need-returns-3
-returns-3 c =
-    let a = c .before .before .before .before .before .before .before .before .before .before .before .args in
-    λ fr x sh nm pt l. passes-lt (a .t .now) (a .c) (c .before .before .before .before .before .before .before .before .before .before .before .pre .1 .0) (a .m) fr x sh nm pt l _ _ _ (c .before .before .before .before .before .before .before .before .before .wide .ensures .0) (c .before .before .flagged3 .ensures) (c .both .ensures) (c .before .before .before .if3 .taken)
+returns-3 c = λ fr n x st nm pt l. passes-lt (c .before .before .before .before .before .before .before .before .before .args .t .now) (c .before .before .before .before .before .before .before .before .before .args .c) (c .before .before .before .before .before .before .before .before .before .pre .1 .0) (c .before .before .before .before .before .before .before .before .before .args .m) fr n x st nm pt l _ _ (c .before .before .before .before .before .before .before .wide .ensures .0) (c .entry3 .ensures) (c .before .if3 .taken)
 
-flagged-requires-4 : tie.Need-flagged-requires-4
-flagged-requires-4 c κs = search needs
-
-both-requires-2 : tie.Need-both-requires-2
-both-requires-2 c κs = search needs
+entry-requires-4 : tie.Need-entry-requires-4
+entry-requires-4 c κs = search needs
 
 returns-4 : tie.Need-returns-4
-returns-4 c =
-    let a = c .before .before .before .before .before .before .before .before .before .before .before .before .before .args in
-    λ fr x sh nm pt l. passes-gt (a .t .now) (a .c) (c .before .before .before .before .before .before .before .before .before .before .before .before .before .pre .1 .0) (a .m) fr x sh nm pt l _ _ _ (c .before .before .before .before .before .before .before .before .before .before .before .wide .ensures .0) (c .before .before .flagged4 .ensures) (c .both2 .ensures) (c .before .before .before .if4 .taken)
+returns-4 c = λ fr n x st nm pt l. passes-gt (c .before .before .before .before .before .before .before .before .before .before .before .args .t .now) (c .before .before .before .before .before .before .before .before .before .before .before .args .c) (c .before .before .before .before .before .before .before .before .before .before .before .pre .1 .0) (c .before .before .before .before .before .before .before .before .before .before .before .args .m) fr n x st nm pt l _ _ (c .before .before .before .before .before .before .before .before .before .wide .ensures .0) (c .entry4 .ensures) (c .before .if4 .taken)
 
 returns-5 : tie.Need-returns-5
-returns-5 c =
-    let a = c .before .before .before .before .before .before .before .before .before .before .before .before .before .args in
-    λ fr x sh nm pt l. passes-eq (a .t .now) (a .c) (c .before .before .before .before .before .before .before .before .before .before .before .before .before .pre .1 .0) (a .m) fr x sh nm pt l (c .before .if5 .taken)
+returns-5 c = λ fr n x st nm pt l. passes-eq (c .before .before .before .before .before .before .before .before .before .before .before .before .before .args .t .now) (c .before .before .before .before .before .before .before .before .before .before .before .before .before .args .c) (c .before .before .before .before .before .before .before .before .before .before .before .before .before .pre .1 .0) (c .before .before .before .before .before .before .before .before .before .before .before .before .before .args .m) fr n x st nm pt l (c .before .if5 .taken)
 
-flagged-requires-5 : tie.Need-flagged-requires-5
-flagged-requires-5 c κs = search needs
+entry-requires-5 : tie.Need-entry-requires-5
+entry-requires-5 c κs = search needs
 
 returns-6 : tie.Need-returns-6
-returns-6 c =
-    let a = c .before .before .before .before .before .before .before .before .before .before .before .before .before .args in
-    λ fr x sh nm pt l. passes-mark (a .t .now) (a .c) (c .before .before .before .before .before .before .before .before .before .before .before .before .before .pre .1 .0) (a .m) fr x sh nm pt l _ (c .flagged5 .ensures) (omega arith)
+returns-6 c = λ fr n x st nm pt l. passes-mark (c .before .before .before .before .before .before .before .before .before .before .before .before .before .args .t .now) (c .before .before .before .before .before .before .before .before .before .before .before .before .before .args .c) (c .before .before .before .before .before .before .before .before .before .before .before .before .before .pre .1 .0) (c .before .before .before .before .before .before .before .before .before .before .before .before .before .args .m) fr n x st nm pt l _ (c .entry5 .ensures) (omega arith)
 
 pub passes-spec : {M : Type 1} → statement M
 passes-spec =
@@ -68,16 +50,14 @@ passes-spec =
     (tie.spec
     wide-requires
     mul-table
-    flagged-requires
+    entry-requires
     returns
-    flagged-requires-2
+    entry-requires-2
     returns-2
-    flagged-requires-3
-    both-requires
+    entry-requires-3
     returns-3
-    flagged-requires-4
-    both-requires-2
+    entry-requires-4
     returns-4
     returns-5
-    flagged-requires-5
+    entry-requires-5
     returns-6)

@@ -34,15 +34,15 @@ mul-at c = omega arith
 
 subjects-holds :
     tie.Need-subjects-holds Inv-actions μ-actions Inv-objects μ-objects Inv-subjects μ-subjects
-subjects-holds c = (omega arith, refl, λ fr d sh nm. refl)
+subjects-holds c = (omega arith, refl, λ fr st nm. refl)
 
 objects-holds :
     tie.Need-objects-holds Inv-actions μ-actions Inv-objects μ-objects Inv-subjects μ-subjects
-objects-holds c = (omega arith, refl, λ fr d sh nm. refl)
+objects-holds c = (omega arith, refl, λ fr st nm. refl)
 
 actions-holds :
     tie.Need-actions-holds Inv-actions μ-actions Inv-objects μ-objects Inv-subjects μ-subjects
-actions-holds c = (omega arith, refl, λ fr d sh nm. refl)
+actions-holds c = (omega arith, refl, λ fr st nm. refl)
 
 member-requires :
     tie.Need-member-requires Inv-actions μ-actions Inv-objects μ-objects Inv-subjects μ-subjects
@@ -92,13 +92,13 @@ actions-again c =
     let l = c .before .before .before .before .before .before .actions in (
       omega arith,
       length-set (l .w) _ _ ∙ l .inv .1,
-      λ fr d sh nm.
+      λ fr st nm.
           let n = number (a .z .objects) (a .z .actions) s o (l .a) in
-          let p = part-member fr (a .z) d s o (l .a) (c .before .before .before .before .before .before .before .before .before .subjects-test .taken) (c .before .before .before .before .before .before .before .objects-test .taken) (c .before .before .before .before .before .actions-test .taken) (storedSort (a .c .sort)) in
-          let q = member-lt fr (a .z) d s o (l .a) (c .before .before .before .before .before .before .before .before .before .subjects-test .taken) (c .before .before .before .before .before .before .before .objects-test .taken) (c .before .before .before .before .before .actions-test .taken) (storedSort (a .c .sort)) in
+          let p = part-member fr (a .z) (a .t .now) st s o (l .a) (c .before .before .before .before .before .before .before .before .before .subjects-test .taken) (c .before .before .before .before .before .before .before .objects-test .taken) (c .before .before .before .before .before .actions-test .taken) (storedSort (a .c .sort)) in
+          let q = member-lt fr (a .z) (a .t .now) st s o (l .a) (c .before .before .before .before .before .before .before .before .before .subjects-test .taken) (c .before .before .before .before .before .before .before .objects-test .taken) (c .before .before .before .before .before .actions-test .taken) (storedSort (a .c .sort)) in
           keep-turn (inScope fr (storedScope (a .c))) (a .k) n _ (l .w) _ _ (c .before .before .access .ensures .0)
-          (c .before .before .before .passes .ensures fr n sh nm (p ∙ sym (c .before .before .before .before .member .ensures)) (rw (c .before .before .before .before .member .ensures) q)) (c .scoped .ensures)
-          ∙ turns-more (l .a) (byAction (inScope fr (storedScope (a .c))) (a .k) (a .z) s o) _ (l .inv .2 fr d sh nm),
+          (c .before .before .before .passes .ensures fr (a .z) n st nm (p ∙ sym (c .before .before .before .before .member .ensures)) (rw (c .before .before .before .before .member .ensures) q)) (c .scoped .ensures)
+          ∙ turns-more (l .a) (byAction (inScope fr (storedScope (a .c))) (a .k) (a .z) s o) _ (l .inv .2 fr st nm),
     )
 
 add-o : tie.Need-add-o Inv-actions μ-actions Inv-objects μ-objects Inv-subjects μ-subjects
@@ -116,9 +116,9 @@ objects-again c =
     let l = c .before .before .before .objects in (
       omega arith,
       c .before .actions .inv .1 ∙ l .inv .1,
-      λ fr d sh nm.
-          turns-done (byAction (inScope fr (storedScope (a .c))) (a .k) (a .z) s (l .o)) _ (c .before .actions .inv .0) (c .actions-test .left) (c .before .actions .inv .2 fr d sh nm)
-          ∙ turns-more (l .o) (byObject (inScope fr (storedScope (a .c))) (a .k) (a .z) s) _ (l .inv .2 fr d sh nm),
+      λ fr st nm.
+          turns-done (byAction (inScope fr (storedScope (a .c))) (a .k) (a .z) s (l .o)) _ (c .before .actions .inv .0) (c .actions-test .left) (c .before .actions .inv .2 fr st nm)
+          ∙ turns-more (l .o) (byObject (inScope fr (storedScope (a .c))) (a .k) (a .z) s) _ (l .inv .2 fr st nm),
     )
 
 add-s : tie.Need-add-s Inv-actions μ-actions Inv-objects μ-objects Inv-subjects μ-subjects
@@ -135,9 +135,9 @@ subjects-again c =
     let l = c .before .before .before .subjects in (
       omega arith,
       c .before .objects .inv .1 ∙ l .inv .1,
-      λ fr d sh nm.
-          turns-done (byObject (inScope fr (storedScope (a .c))) (a .k) (a .z) (l .s)) _ (c .before .objects .inv .0) (c .objects-test .left) (c .before .objects .inv .2 fr d sh nm)
-          ∙ turns-more (l .s) (bySubject (inScope fr (storedScope (a .c))) (a .k) (a .z)) _ (l .inv .2 fr d sh nm),
+      λ fr st nm.
+          turns-done (byObject (inScope fr (storedScope (a .c))) (a .k) (a .z) (l .s)) _ (c .before .objects .inv .0) (c .objects-test .left) (c .before .objects .inv .2 fr st nm)
+          ∙ turns-more (l .s) (bySubject (inScope fr (storedScope (a .c))) (a .k) (a .z)) _ (l .inv .2 fr st nm),
     )
 
 same-length :
@@ -146,8 +146,8 @@ same-length c = c .before .subjects .inv .1
 
 returns : tie.Need-returns Inv-actions μ-actions Inv-objects μ-objects Inv-subjects μ-subjects
 returns c = let a = c .before .before .before .before .args in
-    λ fr d sh nm. turns-done (bySubject (inScope fr (storedScope (a .c))) (a .k) (a .z)) _ (c .before .subjects .inv .0) (c .subjects-test .left) (c .before .subjects .inv .2 fr d sh nm)
-    ∙ walked fr (a .k) (a .z) (inScope fr (storedScope (a .c))) (a .w .now) d (omega arith) (c .before .before .before .before .pre .1 .1)
+    λ fr st nm. turns-done (bySubject (inScope fr (storedScope (a .c))) (a .k) (a .z)) _ (c .before .subjects .inv .0) (c .subjects-test .left) (c .before .subjects .inv .2 fr st nm)
+    ∙ walked fr (a .k) (a .z) (a .t .now) (inScope fr (storedScope (a .c))) (a .w .now) st (omega arith) (c .before .before .before .before .pre .1 .1)
 
 pub scope-spec : {M : Type 1} → statement M
 scope-spec =

@@ -1,11 +1,10 @@
--- `sets::flagged` meets its contract: the index is below the tables' length.
+-- `sets::entry` meets its contract: the index is below the tables' length.
 use mathlib.Core.Path.{ap₂}
 use Prim.Native.Nat.{_+_, _*_}
-use lib.Dec.{eqb}
 use lib.ListN.{length, getD}
 use borrow.Author.Needs.{needs}
-use Rattle.sets.proofs.flagged.Statement.{statement}
-use Rattle.sets.proofs.flagged.Tie as tie
+use Rattle.sets.proofs.entry.Statement.{statement}
+use Rattle.sets.proofs.entry.Tie as tie
 
 wide-requires : tie.Need-wide-requires
 wide-requires c κs = search needs
@@ -26,9 +25,9 @@ shared-slice-read-result : tie.Need-shared-slice-read-result
 shared-slice-read-result c = search needs
 
 returns : tie.Need-returns
-returns c = ap₂ (λ x y. eqb (getD (c .before .before .before .before .args .t .now) (c .before .before .before .before .args .at + x * 64 + y) 0) 1) (c .before .before .wide .ensures .0) (c .before .wide2 .ensures .0)
+returns c = ap₂ (λ x y. getD (c .before .before .before .before .args .t .now) (c .before .before .before .before .args .at + x * 64 + y) 0) (c .before .before .wide .ensures .0) (c .before .wide2 .ensures .0)
 
-pub flagged-spec : {M : Type 1} → statement M
-flagged-spec =
+pub entry-spec : {M : Type 1} → statement M
+entry-spec =
     tie.close
     (tie.spec wide-requires mul-i add-i wide-requires-2 add-i-2 shared-slice-read-result returns)
