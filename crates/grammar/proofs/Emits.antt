@@ -12,8 +12,8 @@ use lib.ListN.{length, take, set, length-set, length-append}
 use lib.Seq.{take-suc-set, take-all, take-append-le}
 use borrow.Author.Tests.{ltb-true, ltb-false, lt-ltb}
 use Rattle.algebra.specs.Algebra.{Tree, table, plus, both, minus, override, scope, closure, operators, held}
-use Rattle.algebra.specs.Policy.{Scope, compared, marked}
-use Rattle.algebra.specs.Program.{Step, table-step, plus-step, both-step, minus-step, override-step, scope-step, closure-step, steps}
+use Rattle.algebra.specs.Policy.{Scope, marked}
+use Rattle.algebra.specs.Program.{Step, plus-step, both-step, minus-step, steps}
 use Rattle.algebra.specs.Order.{Op, le, ge, lt, gt, eq}
 use Rattle.algebra.specs.Stored.{storedOp}
 use Rattle.grammar.specs.Expression as Grammar

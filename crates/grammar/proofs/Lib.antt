@@ -14,4 +14,5 @@ mod Programs
 mod SuffixWays
 mod ReaderWays
 mod Emits
+mod Whole
 mod Examples

@@ -3,7 +3,7 @@ use mathlib.Core.Path.{_≡_, refl, sym, ap, subst, _∙_}
 use mathlib.Core.Bool.{Bool, true, false, cond, _||_, false≢true}
 use mathlib.Core.List.{List, [], _∷_, _++_}
 use mathlib.Core.Option.{Option, none, some}
-use Prim.Native.Nat.{ℕ, zero, suc, _+_, _-_, _≤_, _<_}
+use Prim.Native.Nat.{ℕ, suc, _+_, _-_, _≤_, _<_}
 use native.Mathlib.Omega.{arith}
 use lib.Dec.{eqb}
 use lib.ListN.{length, getD, drop, length-append}
@@ -11,17 +11,17 @@ use lib.Seq.{slice, length-slice}
 use borrow.Author.Tests.{eq-eqb, ne-eqb, eqb-true}
 use Rattle.algebra.specs.Sort.{Sort, subject, object, action}
 use Rattle.grammar.specs.Name.{isLetter, sortWord}
-use Rattle.grammar.specs.Expression.{Joiner, plus-sign, and-sign, minus-sign, Exp, one, more, Fac, plain, Pri, table-name, bracket, override, byteJ, textE, textF, textP}
-use Rattle.grammar.specs.Machine.{Left, start, after, join, Frame, open-bracket, open-first, open-second, open-third, at-table, State, need, naming, have, closed, parted, delimited, joined, onward, stuck, last, named, named-end, finish, grows, step, run}
+use Rattle.grammar.specs.Expression.{Joiner, plus-sign, and-sign, minus-sign, Exp, Fac, plain, table-name, bracket, override, byteJ, textE, textF, textP}
+use Rattle.grammar.specs.Machine.{Left, start, after, join, Frame, open-bracket, open-first, open-second, open-third, at-table, State, need, naming, have, closed, parted, delimited, joined, onward, last, named, named-end, finish, grows, step, run}
 use Rattle.grammar.specs.Names.{Kind, table}
 use Rattle.grammar.specs.Lookup.{sortNumber}
 use Rattle.grammar.specs.Cells.{cell, signNumber, stored, emitName, emitE, emitF}
-use Rattle.grammar.specs.Contract.{sortCode, signCode, suffixByte, ReadsWord, Word, Starts, SuffixesAt, Reads, Stuck, PrimaryAt, FactorAt, ReadsMore, StuckMore, MoreAt, ReadsExpression, StuckAll, ExpressionAt, Awaits, StuckPart, PartAt, OverrideAt}
+use Rattle.grammar.specs.Contract.{sortCode, signCode, suffixByte, Word, Starts, SuffixesAt, Stuck, PrimaryAt, FactorAt, ReadsMore, MoreAt, ReadsExpression, ExpressionAt, Awaits, StuckPart, PartAt, OverrideAt}
 use Rattle.grammar.specs.declared.Parsed.{Parsed}
 use Rattle.grammar.specs.declared.Parsed.the-variants.{Good, Bad}
 use Rattle.grammar.specs.declared.Program.{Program}
 use Rattle.grammar.proofs.Name.{word-of-sort}
-use Rattle.grammar.proofs.Machine.{in-text, is-in, run-go, run-none, run-byte, next-byte, settle-table, one-less, opens, full}
+use Rattle.grammar.proofs.Machine.{is-in, run-go, run-none, run-byte, next-byte, settle-table, one-less, opens, full}
 use Rattle.grammar.proofs.Complete.{joiner-step}
 use Rattle.grammar.proofs.Words.{code-none, code-some, begins-word, the-word}
 
@@ -30,12 +30,12 @@ both-false : (x y : Bool) → (x || y) ≡ false → (x ≡ false) × (y ≡ fal
 both-false true y e = absurd (false≢true (sym e))
 both-false false y e = (refl, e)
 
-cond-same : (t : Bool) → cond {A = Option State} t none none ≡ none
+pub cond-same : (t : Bool) → cond {A = Option State} t none none ≡ none
 cond-same true = refl
 cond-same false = refl
 
 -- after a factor that no suffix and no sign follows
-delims : (a : ℕ) (ks : List Frame) (l : Left) (f : Fac) (b : ℕ) → suffixByte b ≡ false → signCode b ≡ 0 → onward a ks l f b ≡ delimited a ks (join l f) b
+pub delims : (a : ℕ) (ks : List Frame) (l : Left) (f : Fac) (b : ℕ) → suffixByte b ≡ false → signCode b ≡ 0 → onward a ks l f b ≡ delimited a ks (join l f) b
 unfolding onward joined suffixByte signCode
 delims a ks l f b s o = go (eqb b 43) (eqb b 38) (eqb b 45) refl refl refl o
   where

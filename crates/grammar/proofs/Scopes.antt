@@ -3,21 +3,19 @@ use mathlib.Core.Path.{_≡_, refl, sym, ap, subst, _∙_}
 use mathlib.Core.Bool.{Bool, true, false}
 use mathlib.Core.List.{List, [], _∷_}
 use mathlib.Core.Option.{Option, none, some}
-use Prim.Native.Nat.{ℕ, suc, _+_, _-_, _≤_, _<_}
+use Prim.Native.Nat.{ℕ, _+_, _-_, _≤_, _<_}
 use native.Mathlib.Omega.{arith}
-use lib.Dec.{eqb}
 use lib.ListN.{length, getD, drop, length-append}
 use lib.Seq.{slice, length-slice}
-use borrow.Author.Tests.{eq-eqb, ne-eqb}
+use borrow.Author.Tests.{ne-eqb}
 use Rattle.algebra.specs.Sort.{Sort}
 use Rattle.algebra.specs.Order.{Op, eq}
 use Rattle.grammar.specs.Name.{isLetter, isNameByte, letterOf, sortByte, sortWord}
-use Rattle.grammar.specs.Expression.{Scope, compare, marked, Fac, scoped, textO, textS}
-use Rattle.grammar.specs.Machine.{Left, Frame, Slot, at-member, at-scope, Half, less, greater, State, begin, naming, have, half, marking, sorted, ending, stuck, compared, named, named-end, answered, strict, loose, finish, grows, step, run}
-use Rattle.grammar.specs.Names.{Kind}
-use Rattle.grammar.specs.Lookup.{sortNumber, kindOf}
-use Rattle.grammar.specs.Cells.{cell, opNumber, emitName, emitS}
-use Rattle.grammar.specs.Contract.{sortCode, ReadsWord, Word, Starts, Strict, ReadsName, Name, ReadsComparison, StuckScope, IsSort, NoSort, Compared, memberText, ReadsMember, MemberScope, predicateText, ReadsPredicate, PredicateScope, ReadsScope, StuckBegin, ScopeAt}
+use Rattle.grammar.specs.Expression.{compare, marked, Fac, scoped, textO, textS}
+use Rattle.grammar.specs.Machine.{Left, Frame, Slot, at-member, at-scope, Half, less, greater, begin, naming, have, half, marking, sorted, ending, compared, named, named-end, answered, strict, loose, finish, step, run}
+use Rattle.grammar.specs.Lookup.{sortNumber}
+use Rattle.grammar.specs.Cells.{cell, opNumber, emitS}
+use Rattle.grammar.specs.Contract.{sortCode, Word, Starts, Strict, ReadsName, Name, ReadsComparison, Compared, memberText, ReadsMember, MemberScope, predicateText, ReadsPredicate, PredicateScope, ReadsScope, StuckBegin, ScopeAt}
 use Rattle.grammar.specs.declared.NameKind.the-variants.{Member}
 use Rattle.grammar.specs.declared.Parsed.{Parsed}
 use Rattle.grammar.specs.declared.Parsed.the-variants.{Good, Bad}
@@ -26,7 +24,6 @@ use Rattle.grammar.specs.declared.OpRead.the-variants.{Compares, NoCompa
 use Rattle.grammar.specs.declared.ScopeText.{ScopeText}
 use Rattle.grammar.specs.declared.ScopeRead.{ScopeRead}
 use Rattle.grammar.specs.declared.ScopeRead.the-variants.{Scoped, NoScope}
-use Rattle.grammar.specs.declared.Program.{Program}
 use Rattle.grammar.proofs.Name.{word-of-sort}
 use Rattle.grammar.proofs.Machine.{in-text, is-in, run-go, run-none, run-byte, no-byte}
 use Rattle.grammar.proofs.Lookup.{stored-sort}

@@ -1,20 +1,19 @@
 -- The ways through the readers of scopes and closures after a primary. Assumes nothing.
-use mathlib.Core.Path.{_≡_, refl, sym, ap, subst, _∙_}
-use mathlib.Core.Bool.{Bool, true, false}
+use mathlib.Core.Path.{_≡_, refl, ap, subst, _∙_}
+use mathlib.Core.Bool.{true, false}
 use mathlib.Core.List.{List, [], _∷_, _++_}
 use mathlib.Core.Option.{Option}
-use Prim.Native.Nat.{ℕ, suc, _+_, _-_, _≤_, _<_}
+use Prim.Native.Nat.{ℕ, _+_, _≤_, _<_}
 use native.Mathlib.Omega.{arith}
-use lib.Dec.{eqb}
 use lib.ListN.{length, getD, drop, length-append}
 use lib.Seq.{slice, length-slice}
 use borrow.Author.Tests.{eqb-true, ne-eqb}
-use Rattle.grammar.specs.Expression.{Scope, Fac, scoped, closed-by, textS, textF}
-use Rattle.grammar.specs.Machine.{Left, Frame, at-ruleset, at-scope, State, begin, naming, have, caret, onward, stuck, named, named-end, finish, grows, step, run}
+use Rattle.grammar.specs.Expression.{Fac, scoped, closed-by, textS, textF}
+use Rattle.grammar.specs.Machine.{Left, Frame, at-ruleset, at-scope, begin, have, caret, onward, named, named-end, finish, grows, step, run}
 use Rattle.grammar.specs.Names.{Kind, rule-set}
 use Rattle.grammar.specs.Lookup.{kindOf}
 use Rattle.grammar.specs.Cells.{cell, emitName, emitS, emitF}
-use Rattle.grammar.specs.Contract.{suffixByte, Starts, Strict, ReadsName, Name, ReadsScope, ScopeAt, ReadsSuffixes, StuckSuffix, SuffixAt, SuffixesAt}
+use Rattle.grammar.specs.Contract.{suffixByte, Starts, Strict, Name, ReadsScope, ScopeAt, ReadsSuffixes, SuffixAt, SuffixesAt}
 use Rattle.grammar.specs.declared.Parsed.{Parsed}
 use Rattle.grammar.specs.declared.Parsed.the-variants.{Good, Bad}
 use Rattle.grammar.specs.declared.ScopeText.{ScopeText}

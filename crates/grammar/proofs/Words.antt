@@ -10,9 +10,9 @@ use lib.ListN.{length, getD, drop, take, List·getD-eq-default}
 use lib.Seq.{slice, slice-empty, slice-cons, length-slice, length-take-le, take-suc, drop-append-le}
 use Rattle.algebra.specs.Sort.{Sort, subject, object, action}
 use Rattle.grammar.specs.Name.{isLetter, isNameByte, sortByte, sortWord}
-use Rattle.grammar.specs.Machine.{Frame, Slot, State, naming, stuck, finish, grows, step, run}
+use Rattle.grammar.specs.Machine.{Frame, Slot, State, naming, finish, grows, step, run}
 use Rattle.grammar.specs.Lookup.{sortNumber}
-use Rattle.grammar.specs.Contract.{sortCode, ReadsWord, Word, Starts, ReadsName, StuckName, Name}
+use Rattle.grammar.specs.Contract.{sortCode, ReadsWord, Word, Starts, StuckName, Name}
 use Rattle.grammar.specs.declared.Parsed.{Parsed}
 use Rattle.grammar.specs.declared.Parsed.the-variants.{Good, Bad}
 use Rattle.grammar.proofs.Machine.{in-text, run-go, run-none, no-byte, long, grown}

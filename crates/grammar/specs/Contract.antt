@@ -10,13 +10,12 @@ use lib.ListN.{length, getD, drop}
 use lib.Seq.{slice}
 use Rattle.algebra.specs.Sort.{Sort}
 use Rattle.algebra.specs.Order.{Op}
-use Rattle.grammar.specs.Name.{isLetter, sortByte, sortWord}
+use Rattle.grammar.specs.Name.{isLetter, sortWord}
 use Rattle.grammar.specs.Expression.{Scope, compare, marked, Exp, Fac, plain, scoped, Pri, override, textO, textS, textE, textF, textP}
 use Rattle.grammar.specs.Machine.{Left, start, join, Frame, open-first, Slot, at-member, at-scope, State, need, begin, naming, have, stuck, last, named, named-end, finish, grows, delimited, step, run, Reading, read, wrong, reading}
 use Rattle.grammar.specs.Names.{Kind}
 use Rattle.grammar.specs.Lookup.{sortNumber, kindOf}
-use Rattle.grammar.specs.Cells.{cell, opNumber, signNumber, emitName, emitS, emitE, emitF, Yields}
-use Rattle.grammar.specs.declared.NameKind.{NameKind}
+use Rattle.grammar.specs.Cells.{cell, opNumber, emitName, emitS, emitE, emitF, Yields}
 use Rattle.grammar.specs.declared.NameKind.the-variants.{Member, Predicate}
 use Rattle.grammar.specs.declared.Parsed.{Parsed}
 use Rattle.grammar.specs.declared.Parsed.the-variants.{Good, Bad}

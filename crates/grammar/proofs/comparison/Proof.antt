@@ -2,12 +2,8 @@ use Rattle.grammar.proofs.Scopes.{byte-is, byte-isnt, byteH, c-eq, c-tw
 use Rattle.grammar.specs.Cells.{opNumber}
 use Rattle.grammar.specs.Machine.{less, greater, strict, loose}
 use borrow.Author.Needs.{needs}
-use native.Mathlib.Omega.{arith}
 use Rattle.grammar.proofs.comparison.Statement.{statement}
 use Rattle.grammar.proofs.comparison.Tie as tie
-use Rattle.grammar.proofs.comparison.Reads as reads
-use Rattle.grammar.proofs.comparison.Lts as lts
-use Rattle.grammar.proofs.peek.Reads as peek-reads
 
 peek-requires : tie.Need-peek-requires
 peek-requires c κs = search needs

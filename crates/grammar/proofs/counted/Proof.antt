@@ -1,11 +1,8 @@
 use Rattle.grammar.specs.Cells.{countedTo}
 use borrow.Author.Tests.{lt-ltb, le-ltb}
 use borrow.Author.Needs.{needs}
-use native.Mathlib.Omega.{arith}
 use Rattle.grammar.proofs.counted.Statement.{statement}
 use Rattle.grammar.proofs.counted.Tie as tie
-use Rattle.grammar.proofs.counted.Reads as reads
-use Rattle.grammar.proofs.counted.Lts as lts
 
 add-result : tie.Need-add-result
 add-result c = search needs

@@ -7,9 +7,6 @@ use borrow.Author.Needs.{needs}
 use native.Mathlib.Omega.{arith}
 use Rattle.grammar.proofs.find.Statement.{statement}
 use Rattle.grammar.proofs.find.Tie as tie
-use Rattle.grammar.proofs.find.Reads as reads
-use Rattle.grammar.proofs.find.Lts as lts
-use Rattle.grammar.proofs.is_entry.Reads as is-entry-reads
 
 abbrev Inv-loop : tie.InvT-loop
 Inv-loop f starts ends tags base count wanted t from to i₀ k₀ i k = Searching (isEntry wanted (slice from to t)) (entryAt f starts ends tags) base count i k

@@ -1,10 +1,7 @@
 use Rattle.grammar.proofs.Programs.{place-old, place-new}
 use borrow.Author.Needs.{needs}
-use native.Mathlib.Omega.{arith}
 use Rattle.grammar.proofs.first_place.Statement.{statement}
 use Rattle.grammar.proofs.first_place.Tie as tie
-use Rattle.grammar.proofs.first_place.Reads as reads
-use Rattle.grammar.proofs.first_place.Lts as lts
 
 enum-known-m : tie.Need-enum-known-m
 enum-known-m c = search needs

@@ -2,13 +2,8 @@ use Rattle.grammar.specs.Cells.{heightAfter}
 use borrow.Author.Tests.{eq-eqb, ne-eqb, lt-ltb, le-ltb}
 use mathlib.Core.Path.{_∙_}
 use borrow.Author.Needs.{needs}
-use native.Mathlib.Omega.{arith}
 use Rattle.grammar.proofs.height_after.Statement.{statement}
 use Rattle.grammar.proofs.height_after.Tie as tie
-use Rattle.grammar.proofs.height_after.Reads as reads
-use Rattle.grammar.proofs.height_after.Lts as lts
-use Rattle.grammar.proofs.counted.Reads as counted-reads
-use Rattle.grammar.proofs.less.Reads as less-reads
 
 counted-requires : tie.Need-counted-requires
 counted-requires c κs = search needs

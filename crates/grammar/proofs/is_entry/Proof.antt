@@ -5,11 +5,6 @@ use borrow.Author.Needs.{needs}
 use native.Mathlib.Omega.{arith}
 use Rattle.grammar.proofs.is_entry.Statement.{statement}
 use Rattle.grammar.proofs.is_entry.Tie as tie
-use Rattle.grammar.proofs.is_entry.Reads as reads
-use Rattle.grammar.proofs.is_entry.Lts as lts
-use Rattle.grammar.proofs.is_same.Reads as is-same-reads
-use Rattle.grammar.proofs.is_tagged.Reads as is-tagged-reads
-use Rattle.grammar.proofs.wide.Reads as wide-reads
 
 shared-slice-read-is-tagged : tie.Need-shared-slice-read-is-tagged
 shared-slice-read-is-tagged c = search needs

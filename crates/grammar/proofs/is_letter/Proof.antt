@@ -1,9 +1,7 @@
-use borrow.Author.Tests.{eq-eqb, ne-eqb, le-leb, lt-leb, lt-ltb, le-ltb}
+use borrow.Author.Tests.{le-leb, lt-leb}
 use Rattle.grammar.specs.Name.{isLetter}
 use Rattle.grammar.proofs.is_letter.Statement.{statement}
 use Rattle.grammar.proofs.is_letter.Tie as tie
-use Rattle.grammar.proofs.is_letter.Reads as reads
-use Rattle.grammar.proofs.is_letter.Lts as lts
 
 returns : tie.Need-returns
 unfolding isLetter

@@ -1,14 +1,11 @@
 use native.Mathlib.Omega.{arith}
 use mathlib.Core.Bool.{true, false}
 use mathlib.Core.Path.{_≡_}
-use borrow.Author.Tests.{eq-eqb, ne-eqb, le-leb, lt-leb, lt-ltb, le-ltb}
+use borrow.Author.Tests.{ne-eqb, le-leb, lt-leb}
 use Rattle.grammar.specs.Name.{isLetter, isNameByte}
 use borrow.Author.Needs.{needs}
 use Rattle.grammar.proofs.is_name_byte.Statement.{statement}
 use Rattle.grammar.proofs.is_name_byte.Tie as tie
-use Rattle.grammar.proofs.is_name_byte.Reads as reads
-use Rattle.grammar.proofs.is_name_byte.Lts as lts
-use Rattle.grammar.proofs.is_letter.Reads as is-letter-reads
 
 is-letter-requires : tie.Need-is-letter-requires
 is-letter-requires c κs = search needs

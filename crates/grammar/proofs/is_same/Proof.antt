@@ -1,11 +1,8 @@
 use Prim.Native.Nat.{_-_}
 use Rattle.grammar.proofs.Lookup.{Comparing, same-lengths, same-first, same-differ, same-next, same-end}
 use borrow.Author.Needs.{needs}
-use native.Mathlib.Omega.{arith}
 use Rattle.grammar.proofs.is_same.Statement.{statement}
 use Rattle.grammar.proofs.is_same.Tie as tie
-use Rattle.grammar.proofs.is_same.Reads as reads
-use Rattle.grammar.proofs.is_same.Lts as lts
 
 abbrev Inv-loop : tie.InvT-loop
 Inv-loop t from to f start end i₀ j₀ i j = Comparing t from to f start end i j

@@ -1,9 +1,7 @@
-use borrow.Author.Tests.{eq-eqb, ne-eqb, le-leb, lt-leb, lt-ltb, le-ltb}
+use borrow.Author.Tests.{eq-eqb, ne-eqb}
 use Rattle.grammar.specs.Contract.{suffixByte}
 use Rattle.grammar.proofs.is_suffix.Statement.{statement}
 use Rattle.grammar.proofs.is_suffix.Tie as tie
-use Rattle.grammar.proofs.is_suffix.Reads as reads
-use Rattle.grammar.proofs.is_suffix.Lts as lts
 
 returns : tie.Need-returns
 unfolding suffixByte

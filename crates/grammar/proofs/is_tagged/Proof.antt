@@ -1,11 +1,7 @@
 use borrow.Author.Tests.{le-leb, lt-leb}
 use Rattle.grammar.specs.Lookup.{isTagged}
-use borrow.Author.Needs.{needs}
-use native.Mathlib.Omega.{arith}
 use Rattle.grammar.proofs.is_tagged.Statement.{statement}
 use Rattle.grammar.proofs.is_tagged.Tie as tie
-use Rattle.grammar.proofs.is_tagged.Reads as reads
-use Rattle.grammar.proofs.is_tagged.Lts as lts
 
 returns : tie.Need-returns
 unfolding isTagged

@@ -1,11 +1,7 @@
 use Rattle.grammar.proofs.Programs.{lack-is}
 use borrow.Author.Needs.{needs}
-use native.Mathlib.Omega.{arith}
 use Rattle.grammar.proofs.lack.Statement.{statement}
 use Rattle.grammar.proofs.lack.Tie as tie
-use Rattle.grammar.proofs.lack.Reads as reads
-use Rattle.grammar.proofs.lack.Lts as lts
-use Rattle.grammar.proofs.first_place.Reads as first-place-reads
 
 first-place-requires : tie.Need-first-place-requires
 first-place-requires c κs = search needs

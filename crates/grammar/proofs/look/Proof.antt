@@ -1,13 +1,8 @@
 use Rattle.algebra.specs.Sort.{subject, object, action}
 use Rattle.grammar.proofs.Lookup.{look-table, look-ruleset, look-predicate, look-subject, look-object, look-action}
 use borrow.Author.Needs.{needs}
-use native.Mathlib.Omega.{arith}
 use Rattle.grammar.proofs.look.Statement.{statement}
 use Rattle.grammar.proofs.look.Tie as tie
-use Rattle.grammar.proofs.look.Reads as reads
-use Rattle.grammar.proofs.look.Lts as lts
-use Rattle.grammar.proofs.find.Reads as find-reads
-use Rattle.grammar.proofs.sort_tag.Reads as sort-tag-reads
 
 enum-told : tie.Need-enum-told
 enum-told c = search needs

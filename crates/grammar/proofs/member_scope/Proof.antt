@@ -3,11 +3,6 @@ use borrow.Author.Needs.{needs}
 use native.Mathlib.Omega.{arith}
 use Rattle.grammar.proofs.member_scope.Statement.{statement}
 use Rattle.grammar.proofs.member_scope.Tie as tie
-use Rattle.grammar.proofs.member_scope.Reads as reads
-use Rattle.grammar.proofs.member_scope.Lts as lts
-use Rattle.grammar.proofs.comparison.Reads as comparison-reads
-use Rattle.grammar.proofs.peek.Reads as peek-reads
-use Rattle.grammar.proofs.read_name.Reads as read-name-reads
 
 comparison-requires : tie.Need-comparison-requires
 comparison-requires c κs = search needs

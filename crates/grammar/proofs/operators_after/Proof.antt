@@ -2,12 +2,8 @@ use Rattle.grammar.specs.Cells.{operatorsAfter}
 use borrow.Author.Tests.{eq-eqb, ne-eqb}
 use mathlib.Core.Path.{_∙_}
 use borrow.Author.Needs.{needs}
-use native.Mathlib.Omega.{arith}
 use Rattle.grammar.proofs.operators_after.Statement.{statement}
 use Rattle.grammar.proofs.operators_after.Tie as tie
-use Rattle.grammar.proofs.operators_after.Reads as reads
-use Rattle.grammar.proofs.operators_after.Lts as lts
-use Rattle.grammar.proofs.counted.Reads as counted-reads
 
 returns : tie.Need-returns
 unfolding operatorsAfter

@@ -3,8 +3,6 @@ use lib.ListN.{List·getD-eq-default}
 use borrow.Author.Needs.{needs}
 use Rattle.grammar.proofs.peek.Statement.{statement}
 use Rattle.grammar.proofs.peek.Tie as tie
-use Rattle.grammar.proofs.peek.Reads as reads
-use Rattle.grammar.proofs.peek.Lts as lts
 
 shared-slice-read-result : tie.Need-shared-slice-read-result
 shared-slice-read-result c = search needs

@@ -1,12 +1,7 @@
-use Rattle.grammar.proofs.Scopes.{byte-is, byte-isnt, p-name, p-in, p-sort, p-in-2, p-close, p-in-3, p-square, p-in-4, p-good}
+use Rattle.grammar.proofs.Scopes.{byte-is, byte-isnt, p-name, p-sort, p-close, p-square, p-good}
 use borrow.Author.Needs.{needs}
-use native.Mathlib.Omega.{arith}
 use Rattle.grammar.proofs.predicate_scope.Statement.{statement}
 use Rattle.grammar.proofs.predicate_scope.Tie as tie
-use Rattle.grammar.proofs.predicate_scope.Reads as reads
-use Rattle.grammar.proofs.predicate_scope.Lts as lts
-use Rattle.grammar.proofs.peek.Reads as peek-reads
-use Rattle.grammar.proofs.sort_byte.Reads as sort-byte-reads
 
 peek-requires : tie.Need-peek-requires
 peek-requires c κs = search needs

@@ -1,15 +1,7 @@
 use Rattle.grammar.proofs.Programs.{put-more, put-full}
-use lib.ListN.{length}
-use mathlib.Core.Path.{_≡_}
 use borrow.Author.Needs.{needs}
-use native.Mathlib.Omega.{arith}
 use Rattle.grammar.proofs.put.Statement.{statement}
 use Rattle.grammar.proofs.put.Tie as tie
-use Rattle.grammar.proofs.put.Reads as reads
-use Rattle.grammar.proofs.put.Lts as lts
-use Rattle.grammar.proofs.height_after.Reads as height-after-reads
-use Rattle.grammar.proofs.larger.Reads as larger-reads
-use Rattle.grammar.proofs.operators_after.Reads as operators-after-reads
 
 height-after-requires : tie.Need-height-after-requires
 height-after-requires c κs = search needs

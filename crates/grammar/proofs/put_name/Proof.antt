@@ -1,14 +1,7 @@
 use Rattle.grammar.proofs.Programs.{name-found, name-missing}
 use borrow.Author.Needs.{needs}
-use native.Mathlib.Omega.{arith}
 use Rattle.grammar.proofs.put_name.Statement.{statement}
 use Rattle.grammar.proofs.put_name.Tie as tie
-use Rattle.grammar.proofs.put_name.Reads as reads
-use Rattle.grammar.proofs.put_name.Lts as lts
-use Rattle.grammar.proofs.lack.Reads as lack-reads
-use Rattle.grammar.proofs.look.Reads as look-reads
-use Rattle.grammar.proofs.numbered.Reads as numbered-reads
-use Rattle.grammar.proofs.put.Reads as put-reads
 
 look-requires : tie.Need-look-requires
 look-requires c κs = search needs

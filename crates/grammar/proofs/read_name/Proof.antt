@@ -1,12 +1,7 @@
 use Rattle.grammar.proofs.Words.{n-none, n-bounds, n-good, n-sort}
 use borrow.Author.Needs.{needs}
-use native.Mathlib.Omega.{arith}
 use Rattle.grammar.proofs.read_name.Statement.{statement}
 use Rattle.grammar.proofs.read_name.Tie as tie
-use Rattle.grammar.proofs.read_name.Reads as reads
-use Rattle.grammar.proofs.read_name.Lts as lts
-use Rattle.grammar.proofs.word.Reads as word-reads
-use Rattle.grammar.proofs.word_sort.Reads as word-sort-reads
 
 word-requires : tie.Need-word-requires
 word-requires c κs = search needs

@@ -1,15 +1,8 @@
 use Rattle.grammar.proofs.Scopes.{s-none, s-predicate, s-member}
 use Rattle.grammar.proofs.Words.{n-bounds}
 use borrow.Author.Needs.{needs}
-use native.Mathlib.Omega.{arith}
 use Rattle.grammar.proofs.scope.Statement.{statement}
 use Rattle.grammar.proofs.scope.Tie as tie
-use Rattle.grammar.proofs.scope.Reads as reads
-use Rattle.grammar.proofs.scope.Lts as lts
-use Rattle.grammar.proofs.member_scope.Reads as member-scope-reads
-use Rattle.grammar.proofs.predicate_scope.Reads as predicate-scope-reads
-use Rattle.grammar.proofs.word.Reads as word-reads
-use Rattle.grammar.proofs.word_sort.Reads as word-sort-reads
 
 word-requires : tie.Need-word-requires
 word-requires c κs = search needs

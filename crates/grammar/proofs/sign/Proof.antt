@@ -1,11 +1,7 @@
 use borrow.Author.Tests.{eq-eqb, ne-eqb}
 use Rattle.grammar.specs.Contract.{signCode}
-use borrow.Author.Needs.{needs}
-use native.Mathlib.Omega.{arith}
 use Rattle.grammar.proofs.sign.Statement.{statement}
 use Rattle.grammar.proofs.sign.Tie as tie
-use Rattle.grammar.proofs.sign.Reads as reads
-use Rattle.grammar.proofs.sign.Lts as lts
 
 returns : tie.Need-returns
 unfolding signCode

@@ -2,12 +2,8 @@ use borrow.Author.Tests.{eq-eqb, ne-eqb}
 use Rattle.grammar.specs.Name.{sortByte}
 use Rattle.grammar.specs.Lookup.{sortNumber}
 use Rattle.grammar.specs.Contract.{sortCode}
-use borrow.Author.Needs.{needs}
-use native.Mathlib.Omega.{arith}
 use Rattle.grammar.proofs.sort_byte.Statement.{statement}
 use Rattle.grammar.proofs.sort_byte.Tie as tie
-use Rattle.grammar.proofs.sort_byte.Reads as reads
-use Rattle.grammar.proofs.sort_byte.Lts as lts
 
 returns : tie.Need-returns
 unfolding sortCode sortByte sortNumber

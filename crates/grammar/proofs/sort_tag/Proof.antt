@@ -1,10 +1,6 @@
 use Rattle.grammar.proofs.Lookup.{tag-low, tag-high}
-use borrow.Author.Needs.{needs}
-use native.Mathlib.Omega.{arith}
 use Rattle.grammar.proofs.sort_tag.Statement.{statement}
 use Rattle.grammar.proofs.sort_tag.Tie as tie
-use Rattle.grammar.proofs.sort_tag.Reads as reads
-use Rattle.grammar.proofs.sort_tag.Lts as lts
 
 returns : tie.Need-returns
 returns c = tag-low _ (c .if1 .taken)

@@ -5,12 +5,6 @@ use borrow.Author.Needs.{needs}
 use native.Mathlib.Omega.{arith}
 use Rattle.grammar.proofs.suffix.Statement.{statement}
 use Rattle.grammar.proofs.suffix.Tie as tie
-use Rattle.grammar.proofs.suffix.Reads as reads
-use Rattle.grammar.proofs.suffix.Lts as lts
-use Rattle.grammar.proofs.peek.Reads as peek-reads
-use Rattle.grammar.proofs.put_name.Reads as put-name-reads
-use Rattle.grammar.proofs.read_name.Reads as read-name-reads
-use Rattle.grammar.proofs.scope.Reads as scope-reads
 
 add-n : tie.Need-add-n
 add-n c = omega (arith, x-in (c .before .before .before .before .before .args .t .now) (c .before .before .before .before .before .args .at) (c .before .before .before .before .before .pre .1))

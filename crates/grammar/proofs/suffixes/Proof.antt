@@ -8,11 +8,6 @@ use borrow.Author.Needs.{needs}
 use native.Mathlib.Omega.{arith}
 use Rattle.grammar.proofs.suffixes.Statement.{statement}
 use Rattle.grammar.proofs.suffixes.Tie as tie
-use Rattle.grammar.proofs.suffixes.Reads as reads
-use Rattle.grammar.proofs.suffixes.Lts as lts
-use Rattle.grammar.proofs.is_suffix.Reads as is-suffix-reads
-use Rattle.grammar.proofs.peek.Reads as peek-reads
-use Rattle.grammar.proofs.suffix.Reads as suffix-reads
 
 abbrev Inv-loop : tie.InvT-loop
 Inv-loop t at f starts ends tags counts q₀ i₀ q i = ReadsSuffixes (lookupIn f starts ends tags counts) t i₀ i q₀ q

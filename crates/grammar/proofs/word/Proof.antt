@@ -7,11 +7,6 @@ use borrow.Author.Needs.{needs}
 use native.Mathlib.Omega.{arith}
 use Rattle.grammar.proofs.word.Statement.{statement}
 use Rattle.grammar.proofs.word.Tie as tie
-use Rattle.grammar.proofs.word.Reads as reads
-use Rattle.grammar.proofs.word.Lts as lts
-use Rattle.grammar.proofs.is_letter.Reads as is-letter-reads
-use Rattle.grammar.proofs.is_name_byte.Reads as is-name-byte-reads
-use Rattle.grammar.proofs.peek.Reads as peek-reads
 
 abbrev Inv-loop : tie.InvT-loop
 Inv-loop t at i₀ i = Growing t at i

@@ -1,12 +1,7 @@
 use Rattle.grammar.proofs.Words.{s-long, s-letter}
 use borrow.Author.Needs.{needs}
-use native.Mathlib.Omega.{arith}
 use Rattle.grammar.proofs.word_sort.Statement.{statement}
 use Rattle.grammar.proofs.word_sort.Tie as tie
-use Rattle.grammar.proofs.word_sort.Reads as reads
-use Rattle.grammar.proofs.word_sort.Lts as lts
-use Rattle.grammar.proofs.peek.Reads as peek-reads
-use Rattle.grammar.proofs.sort_byte.Reads as sort-byte-reads
 
 add-if1 : tie.Need-add-if1
 add-if1 c = search needs
