@@ -2,7 +2,8 @@
 use mathlib.Core.Path.{_≡_, refl, sym, ap, _∙_}
 use mathlib.Core.Bool.{true, false, cond}
 use mathlib.Core.List.{List}
-use Prim.Native.Nat.{ℕ, _+_, _-_, _≤_, _<_}
+use Prim.Native.Nat.{ℕ, _+_, _*_, _-_, _≤_, _<_}
+use native.Mathlib.Nat.{mul-le-mul}
 use native.Mathlib.Decide.{ℕ-discrete}
 use native.Mathlib.Omega.{arith}
 use lib.Dec.{eqb}
@@ -137,3 +138,11 @@ module _ (n : Counts) (c : Cell) (s : StoredScope) (f : Fits n c) (least : 5 ≤
       go (no r) =
           let e : c .kind ≡ 6 = omega arith in
           rw (stored-marked s (is .0 ∙ rw e), is .2) (f .predicate e .1)
+
+-- ---- products of bytes
+
+pub small-two : {a b : ℕ} → a < 256 → b < 256 → a * b ≤ 65025
+small-two {a} {b} p q = let x : a ≤ 255 = omega arith in let y : b ≤ 255 = omega arith in let r = mul-le-mul x y in omega arith
+
+pub small-three : {a b c : ℕ} → a < 256 → b < 256 → c < 256 → a * b * c ≤ 16581375
+small-three {a} {b} {c} p q s = let x = small-two p q in let y : c ≤ 255 = omega arith in let r = mul-le-mul x y in omega arith

@@ -1,12 +1,12 @@
 -- Laws of one step: each kind of cell is a step of the postfix program on the stack.
 use mathlib.Core.Path.{_≡_, refl, sym, ap, subst, fun-ext, _∙_}
 use mathlib.Core.Bool.{true, false}
-use mathlib.Core.List.{List, [], _∷_, map}
+use mathlib.Core.List.{List, [], _∷_, _++_, map}
 use Prim.Native.Nat.{ℕ, _+_, _*_, _-_, _≤_, _<_}
 use native.Mathlib.Decide.{ℕ-discrete}
 use native.Mathlib.Omega.{arith}
 use lib.Dec.{eqb}
-use lib.ListN.{length, getD, length-map, List·getD-map}
+use lib.ListN.{length, getD, take, drop, length-map, List·getD-map}
 use lib.Seq.{ext-getD}
 use borrow.Author.Tests.{eq-eqb, ne-eqb}
 use Rattle.algebra.specs.Lists.{any, tab}
@@ -14,7 +14,7 @@ use Rattle.algebra.specs.Answer.{Answer, deny, undecided, byte, answerOf, keep,
 use Rattle.algebra.specs.Rounds.{Clause, iter, used}
 use Rattle.algebra.specs.Algebra.{permits, grade, decided, close}
 use Rattle.algebra.specs.Program.{Step, table-step, plus-step, both-step, minus-step, override-step, scope-step, closure-step}
-use Rattle.algebra.specs.Policy.{Table, Policy, Scope, accesses, inScope, clauses, model, tableAt, tableAnswer}
+use Rattle.algebra.specs.Policy.{Frame, Table, Policy, Scope, accesses, inScope, clauses, model, tableAt, tableAnswer}
 use Rattle.algebra.specs.declared.Counts.{Counts}
 use Rattle.algebra.specs.declared.StoredRule.{StoredRule}
 use Rattle.algebra.proofs.Lists.{length-tab, getD-tab, getD-map-lt}
@@ -25,10 +25,10 @@ use Rattle.algebra.proofs.Program.{one}
 use Rattle.sets.specs.Bytes.{put}
 use Rattle.sets.specs.Sets.{answerAt, setAt, putSet, operation, replaced, Stack, no-set, set-on}
 use Rattle.sets.specs.Grants.{grantsOf}
-use Rattle.sets.proofs.Bytes.{put-high}
+use Rattle.sets.proofs.Bytes.{put-high, part-put}
 use Rattle.sets.proofs.Sets.{answerOf-byte, putSet-high}
 use Rattle.sets.proofs.Stack.{valuesOf, length-shut, step-table, step-plus, step-both, step-minus, step-override, step-scope, step-closure, here-answers, away-answers}
-use Rattle.closure.specs.Closed.{answersOf}
+use Rattle.closure.specs.Closed.{answersOf, ClosedTo}
 use Rattle.grammar.specs.Cells.{cellOf}
 use Rattle.grammar.specs.declared.Cell.{Cell}
 use Rattle.composer.specs.Compose.{TableIs}
@@ -66,6 +66,20 @@ shut-bytes N G lim a =
 top-answers : {n : ℕ} {w : List ℕ} {v : List Answer} {st : List (List Answer)} (k : ℕ) → k ≡ length st → Stack n w (v ∷ st) → answersOf (setAt k n w) ≡ valueAt v
 top-answers {n} {w} k e (set-on {v = v} {st = st} l q s) =
     fun-ext (λ x. ap (λ l. answerOf (getD l x 0)) (ap (λ k. setAt k n w) e ∙ q) ∙ ap answerOf (List·getD-map byte v x deny) ∙ answerOf-byte (valueAt v x))
+
+-- the closure of a part of the memory is that of a set; m is how long the part is
+pub closed-at : (fr : Frame) (set limit k m : ℕ) (w l : List ℕ) (r : ℕ) → m ≡ accesses fr → ClosedTo fr set limit (take m (drop (k * 4096) w)) r l
+    → ClosedAt fr set limit k w r (take (k * 4096) w ++ (l ++ drop m (drop (k * 4096) w)))
+closed-at fr set limit k m w l r e cl =
+    let N : ℕ = accesses fr in
+    let f : List ℕ → List ℕ = λ q. tab N (λ x. byte (close N (clauses fr set) limit (answersOf q) x)) in
+    let same : take m (drop (k * 4096) w) ≡ setAt k N w = ap (λ m. take m (drop (k * 4096) w)) e in
+    let bs : l ≡ f (setAt k N w) = cl .answers ∙ ap f same in
+    let long : length l ≡ m = ap length bs ∙ length-tab N _ ∙ sym e in
+    record {
+      all = cl .all ∙ ap (λ q. used N (clauses fr set) limit (permits N (answersOf q))) same;
+      bytes = part-put (k * 4096) m l w long ∙ ap (λ bs. put (k * 4096) bs w) bs;
+    }
 
 -- ---- the rounds of a stack
 
