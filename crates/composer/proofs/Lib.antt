@@ -1,0 +1,3 @@
+-- The laws behind the proofs.
+pub mod Cells
+pub mod Turn
