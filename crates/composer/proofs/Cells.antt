@@ -16,8 +16,8 @@ use Rattle.algebra.specs.StoredFrame.{sizeOf, Stands}
 use Rattle.algebra.specs.declared.Counts.{Counts}
 use Rattle.sets.specs.Scopes.{storedScope, Coded, Names}
 use Rattle.sets.specs.declared.StoredScope.{StoredScope}
-use Rattle.grammar.specs.Cells.{cellOf}
-use Rattle.grammar.specs.declared.Cell.{Cell}
+use Rattle.expressions.specs.Cells.{cellOf}
+use Rattle.expressions.specs.declared.Cell.{Cell}
 use Rattle.composer.specs.Compose.{Fits}
 use Rattle.composer.specs.Turn.{Held}
 

@@ -18,8 +18,8 @@ use Rattle.sets.specs.Sets.{setAt, Answers, Stack}
 use Rattle.sets.proofs.Stack.{valuesOf}
 use Rattle.closure.specs.Stored.{Stored}
 use Rattle.closure.specs.Closed.{answersOf}
-use Rattle.grammar.specs.Cells.{cellOf}
-use Rattle.grammar.specs.declared.Cell.{Cell}
+use Rattle.expressions.specs.Cells.{cellOf}
+use Rattle.expressions.specs.declared.Cell.{Cell}
 use Rattle.composer.specs.Compose.{TableIs}
 
 -- the rounds of the sets on the stack

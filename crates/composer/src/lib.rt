@@ -15,15 +15,15 @@ ghost use Rattle.algebra.proofs.Run.{Ran};
 ghost use Rattle.sets.specs.Sets.{putSet, Room};
 
 ghost use Rattle.closure.specs.Stored.{Ready, Stored};
-ghost use Rattle.grammar.specs.Cells.{cellOf};
+ghost use Rattle.expressions.specs.Cells.{cellOf};
 ghost use Rattle.composer.specs.Compose.{TableIs, Fits, Sized, Composes, Composed, Listed};
 ghost use Rattle.composer.specs.Turn.{ClosedAt, Held, AllAnswers, Steps, Stepped};
 use algebra::Counts;
 use algebra::StoredRule;
 use closure::closure;
 use closure::fill_order;
-use grammar::Cell;
-use grammar::Program;
+use expressions::Cell;
+use expressions::Program;
 use sets::StoredScope;
 use sets::combine;
 use sets::fill_away;

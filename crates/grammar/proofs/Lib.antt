@@ -7,12 +7,4 @@ pub mod Longest
 pub mod Reading
 pub mod Names
 pub mod Leftmost
-pub mod Lookup
-mod Words
-mod Scopes
-mod Programs
-mod SuffixWays
-mod ReaderWays
-mod Emits
-mod Whole
 mod Examples

@@ -1,7 +1,3 @@
-pub mod Parts
-pub mod Cuts
-pub mod Forms
-pub mod Standing
 pub mod Rows
 pub mod Lookup
 pub mod Later

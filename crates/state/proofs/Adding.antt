@@ -11,14 +11,14 @@ use native.Mathlib.Numerals.{add-one}
 use lib.ListN.{length, getD, set, length-set, length-append, List·getD-append}
 use lib.Seq.{slice, getD-append-seam}
 use Rattle.algebra.specs.Sort.{Sort, subject, object, action}
-use Rattle.grammar.specs.Lookup.{Entry, entries, Group, Sound, memberBase, memberCount, predicateBase, tableBase, setBase}
-use Rattle.grammar.specs.declared.NameCounts.{NameCounts}
+use Rattle.expressions.specs.Entries.{Entry, entries, Group, Sound, memberBase, memberCount, predicateBase, tableBase, setBase}
+use Rattle.expressions.specs.declared.NameCounts.{NameCounts}
 use Rattle.reader.specs.Line.{Line, memberLine, tableLine}
 use Rattle.reader.specs.Declarations.{Member, Members, Table, Declared, membersOf, count, withMember, sortGroup, parentOf, noTable}
 use Rattle.reader.specs.Rows.{most}
 use Rattle.reader.specs.File.{add}
-use Rattle.reader.specs.State.{parentTag, memberEntry, predicateEntry, tableEntry, setEntry, Names}
-use Rattle.reader.proofs.Standing.{count-is, tables-are}
+use Rattle.state.specs.NameTables.{parentTag, memberEntry, predicateEntry, tableEntry, setEntry, Names}
+use Rattle.state.proofs.NameTables.{count-is, tables-are}
 use Rattle.state.specs.Standing.{grantsOf, Few, Sizes, Stands, placedOf, moreMembers, moreTables}
 use Rattle.state.specs.declared.State.{State}
 use Rattle.state.proofs.Entries.{entries-keep, entries-more, group-keep, group-more}

@@ -12,8 +12,9 @@ use borrow.Author.Tests.{ltb-false, lt-ltb, le-leb}
 use Rattle.algebra.specs.Sort.{Sort, subject, object, action}
 use Rattle.algebra.proofs.Lists.{length-tabFrom}
 use Rattle.grammar.specs.Names.{Kind, table, rule-set, member, predicate}
-use Rattle.grammar.specs.Lookup.{Entry, entryAt, entries, isEntry, position, lookupIn, memberBase, memberCount, predicateBase, tableBase, setBase, sortNumber}
-use Rattle.grammar.specs.declared.NameCounts.{NameCounts}
+use Rattle.grammar.specs.Lookup.{position}
+use Rattle.expressions.specs.Entries.{Entry, entryAt, entries, isEntry, lookupIn, memberBase, memberCount, predicateBase, tableBase, setBase, sortNumber}
+use Rattle.expressions.specs.declared.NameCounts.{NameCounts}
 use Rattle.reader.proofs.Lookup.{position-lt}
 use Rattle.state.specs.Judged.{badCountsOf}
 

@@ -16,7 +16,7 @@ use Rattle.grammar.specs.Lookup.{place}
 use Rattle.reader.specs.Line.{Line, grantLine}
 use Rattle.reader.specs.Declarations.{Table, Declared, noTable, tableAt, accessOf, granting, withGrant}
 use Rattle.reader.specs.File.{add}
-use Rattle.reader.specs.State.{memberEntry, tableEntry, Names}
+use Rattle.state.specs.NameTables.{memberEntry, tableEntry, Names}
 use Rattle.state.specs.Standing.{grantAt, grantsOf, Few, Sizes, Stands, grantedOf, grantWritten}
 use Rattle.state.specs.declared.State.{State}
 

@@ -8,6 +8,7 @@ pub mod Grants
 pub mod Heads
 pub mod Lines
 pub mod Marks
+pub mod NameTables
 pub mod Names
 pub mod Numbers
 pub mod RuleTests

@@ -15,16 +15,17 @@ use Rattle.algebra.proofs.Lists.{getD-tabFrom}
 use Rattle.grammar.specs.Names as Kinds
 use lib.Dec.{ltb}
 use borrow.Author.Tests.{ltb-false}
-use Rattle.grammar.specs.Lookup.{Entry, entryAt, entries, found, memberBase, memberCount, tableBase, lookupIn}
-use Rattle.grammar.specs.declared.NameCounts.{NameCounts}
+use Rattle.grammar.specs.Lookup.{found}
+use Rattle.expressions.specs.Entries.{Entry, entryAt, entries, memberBase, memberCount, tableBase, lookupIn}
+use Rattle.expressions.specs.declared.NameCounts.{NameCounts}
 use Rattle.reader.specs.Line.{Line, memberLine, tableLine}
 use Rattle.reader.specs.Declarations.{Table, Declared, noTable, memberAt, count, sortGroup, groupOf, parentOf}
 use Rattle.reader.specs.Rows.{good, refuse, first, rows, most, isMember, isParent, notDeclared, outOfOrder, badCounts}
 use Rattle.reader.specs.Expression.{lookup}
 use Rattle.reader.specs.File.{add}
-use Rattle.reader.specs.State.{parentTag, tableEntry, Names}
+use Rattle.state.specs.NameTables.{parentTag, tableEntry, Names}
 use Rattle.reader.proofs.Rows.{rows-number, Good, good-rows}
-use Rattle.reader.proofs.Standing.{lookup-is, count-is, predicates-are, tables-are, sets-are}
+use Rattle.state.proofs.NameTables.{lookup-is, count-is, predicates-are, tables-are, sets-are}
 use Rattle.state.specs.Standing.{flag, Few, NamesStand, Sizes, Stands, placedOf, moreMembers, moreTables}
 use Rattle.state.specs.Judged.{lateOf, badCountsOf, MemberJudged, member-refused, member-passes, TableJudged, table-refused, table-passes, LineJudged, line-refused, line-good}
 use Rattle.state.specs.declared.State.{State}

@@ -14,13 +14,14 @@ use lib.Seq.{slice, getD-set-same, getD-set-other, map-set-same, getD-append-sea
 use borrow.Author.Tests.{eq-eqb, ne-eqb}
 use Rattle.algebra.specs.Sort.{Sort, subject, object, action}
 use Rattle.algebra.specs.Lists.{any}
-use Rattle.grammar.specs.Lookup.{Entry, entries, Group, Sound, place, memberBase, memberCount, predicateBase, tableBase, setBase}
-use Rattle.grammar.specs.declared.NameCounts.{NameCounts}
+use Rattle.grammar.specs.Lookup.{place}
+use Rattle.expressions.specs.Entries.{Entry, entries, Group, Sound, memberBase, memberCount, predicateBase, tableBase, setBase}
+use Rattle.expressions.specs.declared.NameCounts.{NameCounts}
 use Rattle.reader.specs.Line.{Line, predicateLine}
 use Rattle.reader.specs.Declarations.{Predicate, Declared, membersOf, memberAt, predicateAt, listing, withListed}
 use Rattle.reader.specs.File.{add}
-use Rattle.reader.specs.State.{memberEntry, predicateEntry, tableEntry, setEntry, Names}
-use Rattle.reader.proofs.Standing.{predicates-are}
+use Rattle.state.specs.NameTables.{memberEntry, predicateEntry, tableEntry, setEntry, Names}
+use Rattle.state.proofs.NameTables.{predicates-are}
 use Rattle.state.specs.Standing.{flag, listedAt, Few, Sizes, Stands, placedOf, markedOf, morePredicates}
 use Rattle.state.specs.declared.State.{State}
 use Rattle.state.proofs.Entries.{entries-keep, entries-more, group-keep, group-more}

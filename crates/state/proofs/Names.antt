@@ -12,8 +12,9 @@ use Rattle.algebra.specs.Sort.{Sort, subject, object, action}
 use Rattle.algebra.specs.Policy.{Rule}
 use Rattle.algebra.specs.Stored.{storedSort}
 use Rattle.grammar.specs.Names.{Kind, table, member, predicate}
-use Rattle.grammar.specs.Lookup.{found, lookupIn, memberCount}
-use Rattle.grammar.specs.declared.NameCounts.{NameCounts}
+use Rattle.grammar.specs.Lookup.{found}
+use Rattle.expressions.specs.Entries.{lookupIn, memberCount}
+use Rattle.expressions.specs.declared.NameCounts.{NameCounts}
 use Rattle.reader.specs.Line.{Line, memberLine, predicateLine, tableLine}
 use Rattle.reader.specs.Declarations.{Declared, sortGroup, tableAt, memberAt, predicateAt, count, groupOf}
 use Rattle.reader.specs.Expression.{lookup}

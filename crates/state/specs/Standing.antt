@@ -9,10 +9,10 @@ use Rattle.algebra.specs.Sort.{Sort, subject, object, action}
 use Rattle.algebra.specs.Lists.{any, gather, only, upto}
 use Rattle.algebra.specs.Stored.{storedRule}
 use Rattle.grammar.specs.Names.{Kind}
-use Rattle.grammar.specs.Lookup.{Sound, memberCount, tableBase, lookupIn}
-use Rattle.grammar.specs.declared.NameCounts.{NameCounts}
+use Rattle.expressions.specs.Entries.{Sound, memberCount, tableBase, lookupIn}
+use Rattle.expressions.specs.declared.NameCounts.{NameCounts}
 use Rattle.reader.specs.Declarations.{Predicate, Declared, count, noTable}
-use Rattle.reader.specs.State.{Names}
+use Rattle.state.specs.NameTables.{Names}
 use Rattle.reader.specs.Expression.{lookup}
 use Rattle.algebra.specs.declared.StoredRule.{StoredRule}
 use Rattle.reader.specs.Rows.{placedLast}

@@ -3,7 +3,7 @@ use Prim.Native.Nat.{_*_, _≤_, _<_}
 use native.Mathlib.Omega.{arith}
 use borrow.Author.Needs.{needs}
 use Rattle.algebra.specs.Stored.{storedSort}
-use Rattle.grammar.specs.Lookup.{foundOf}
+use Rattle.expressions.specs.Entries.{foundOf}
 use Rattle.state.proofs.Found.{found-lt, few-accesses, access-few, tag-at}
 use Rattle.state.proofs.Grants.{grant-4, grant-8, grant-6-table, grant-6-subject, grant-6-object, grant-6-action, grant-10, grant-good}
 use Rattle.state.proofs.judge_grant.Statement.{statement}
@@ -11,7 +11,7 @@ use Rattle.state.proofs.judge_grant.Tie as tie
 use Rattle.state.proofs.judge_grant.Reads as reads
 use Rattle.state.proofs.judge_grant.Lts as lts
 use Rattle.algebra.proofs.access.Reads as access-reads
-use Rattle.grammar.proofs.look.Reads as look-reads
+use Rattle.expressions.proofs.look.Reads as look-reads
 use Rattle.state.proofs.bad_counts.Reads as bad-counts-reads
 use Rattle.state.proofs.late.Reads as late-reads
 use Rattle.state.proofs.wide.Reads as wide-reads

@@ -1,13 +1,13 @@
 use mathlib.Core.Path.{_≡_, sym, ap, _∙_}
 use native.Mathlib.Omega.{arith}
-use Rattle.grammar.specs.Lookup.{foundOf}
+use Rattle.expressions.specs.Entries.{foundOf}
 use Rattle.state.proofs.Names.{member-4, member-7, member-5, member-good}
 use borrow.Author.Needs.{needs}
 use Rattle.state.proofs.judge_member.Statement.{statement}
 use Rattle.state.proofs.judge_member.Tie as tie
 use Rattle.state.proofs.judge_member.Reads as reads
 use Rattle.state.proofs.judge_member.Lts as lts
-use Rattle.grammar.proofs.look.Reads as look-reads
+use Rattle.expressions.proofs.look.Reads as look-reads
 use Rattle.state.proofs.late.Reads as late-reads
 use Rattle.state.proofs.members.Reads as members-reads
 use Rattle.state.proofs.room.Reads as room-reads

@@ -1,12 +1,12 @@
 use mathlib.Core.Path.{_≡_, sym, ap, _∙_}
-use Rattle.grammar.specs.Lookup.{foundOf}
+use Rattle.expressions.specs.Entries.{foundOf}
 use Rattle.state.proofs.Names.{predicate-4, predicate-8, predicate-7, known-6, known-good, fresh-6, fresh-good}
 use borrow.Author.Needs.{needs}
 use Rattle.state.proofs.judge_predicate.Statement.{statement}
 use Rattle.state.proofs.judge_predicate.Tie as tie
 use Rattle.state.proofs.judge_predicate.Reads as reads
 use Rattle.state.proofs.judge_predicate.Lts as lts
-use Rattle.grammar.proofs.look.Reads as look-reads
+use Rattle.expressions.proofs.look.Reads as look-reads
 use Rattle.state.proofs.bad_counts.Reads as bad-counts-reads
 use Rattle.state.proofs.late.Reads as late-reads
 

@@ -1,12 +1,12 @@
 use mathlib.Core.Path.{_≡_, sym, ap, _∙_}
-use Rattle.grammar.specs.Lookup.{foundOf}
+use Rattle.expressions.specs.Entries.{foundOf}
 use Rattle.state.proofs.Names.{table-4, table-8, table-7, table-5, table-good}
 use borrow.Author.Needs.{needs}
 use Rattle.state.proofs.judge_table.Statement.{statement}
 use Rattle.state.proofs.judge_table.Tie as tie
 use Rattle.state.proofs.judge_table.Reads as reads
 use Rattle.state.proofs.judge_table.Lts as lts
-use Rattle.grammar.proofs.look.Reads as look-reads
+use Rattle.expressions.proofs.look.Reads as look-reads
 use Rattle.state.proofs.bad_counts.Reads as bad-counts-reads
 use Rattle.state.proofs.late.Reads as late-reads
 
