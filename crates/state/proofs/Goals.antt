@@ -212,6 +212,19 @@ module _ (f starts ends tags : List ℕ) (c : NameCounts) (d : Declared) (ns : N
                   used-all : m .program .used ≡ length (steps tree)
                   used-all = let y = whole .yields .used-is in let z = short in omega arith
 
+-- ---- the verdict taken apart
+
+module _ (d : Declared) (limit : ℕ) (t : List ℕ) (j : Goal) (J : GoalJudged d limit t j) where
+  pub goal-no : (j .number ≡ 0 → ⊥) → first (rows d (expressionLine limit t)) ≡ refuse (j .number) (j .place)
+  goal-no ne = J .verdict ∙ go (j .number) ne
+    where
+      go : (n : ℕ) → (n ≡ 0 → ⊥) → verdictAt n (j .place) ≡ refuse n (j .place)
+      go zero h = absurd (h refl)
+      go (suc n) h = refl
+
+  pub goal-yes : j .number ≡ 0 → first (rows d (expressionLine limit t)) ≡ good
+  goal-yes e = J .verdict ∙ ap (λ (n : ℕ). verdictAt n (j .place)) e
+
 -- ---- what is declared after it
 
 pub goal-added : (d : Declared) (limit : ℕ) (t : List ℕ) (p : Program) (G : GoalGood d limit t p)
@@ -237,3 +250,9 @@ goal-stands f w st d S limit t e = record {
   shaped = S .shaped;
   no-grants = λ h. absurd (omega arith);
 }
+
+-- the same of the code's answers
+pub goal-line : (f w : List ℕ) (st : State) (d : Declared) → Stands f w st d → (limit : ℕ) (t : List ℕ) (j : Goal) → GoalJudged d limit t j → j .number ≡ 0
+    → (st′ : State) → st′ ≡ endedOf st → Stands f w st′ (add d (expressionLine limit t))
+goal-line f w st d S limit t j J e st′ es =
+    subst (λ (x : State). Stands f w x (add d (expressionLine limit t))) (sym es) (goal-stands f w st d S limit t (goal-yes d limit t j J e))
