@@ -181,7 +181,7 @@ table-yes d t h k (table-refused e) z = absurd (let r = rows-number d (tableLine
 table-yes d t h k (table-passes e r) z = (e, r)
 
 -- after a good line of a later group the accesses are few
-few-after : (f w : List ℕ) (st : State) (d : Declared) → Stands f w st d → (l : Line) → first (rows d l) ≡ good → 3 ≤ groupOf l
+pub few-after : (f w : List ℕ) (st : State) (d : Declared) → Stands f w st d → (l : Line) → first (rows d l) ≡ good → 3 ≤ groupOf l
     → st .counts .subjects * st .counts .objects * st .counts .actions ≤ 4096
 few-after f w st d S l e h =
     few-accesses (st .group) (groupOf l) (st .counts .subjects) (st .counts .objects) (st .counts .actions) h

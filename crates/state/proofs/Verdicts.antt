@@ -12,19 +12,19 @@ use Rattle.reader.specs.Declarations.{Declared, count, groupOf}
 use Rattle.reader.specs.Rows.{Row, row, if, Verdict, good, refuse, first, rows, outOfOrder, withoutRule, badCounts, tooMany, declaredAlready, notDeclared, grantsAway, twoSorts, expressionRows}
 use Rattle.state.specs.Judged.{lateOf, badCountsOf}
 
-first-met : (n p : ℕ) (o : Option ℕ) (rs : List Row) → o ≡ some p → first (row n o ∷ rs) ≡ refuse n p
+pub first-met : (n p : ℕ) (o : Option ℕ) (rs : List Row) → o ≡ some p → first (row n o ∷ rs) ≡ refuse n p
 unfolding first row
 first-met n p o rs e = ap (λ (x : Option ℕ). elim x as (λ _. Verdict) [ none ↦ first rs | some q ↦ refuse n q ]) e
 
-first-passed : (n : ℕ) (o : Option ℕ) (rs : List Row) → o ≡ none → first (row n o ∷ rs) ≡ first rs
+pub first-passed : (n : ℕ) (o : Option ℕ) (rs : List Row) → o ≡ none → first (row n o ∷ rs) ≡ first rs
 unfolding first row
 first-passed n o rs e = ap (λ (x : Option ℕ). elim x as (λ _. Verdict) [ none ↦ first rs | some q ↦ refuse n q ]) e
 
-if-true : {b : Bool} → b ≡ true → if b ≡ some 0
+pub if-true : {b : Bool} → b ≡ true → if b ≡ some 0
 unfolding if
 if-true e = rw e
 
-if-false : {b : Bool} → b ≡ false → if b ≡ none
+pub if-false : {b : Bool} → b ≡ false → if b ≡ none
 unfolding if
 if-false e = rw e
 
