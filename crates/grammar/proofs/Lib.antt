@@ -1,4 +1,5 @@
--- Laws of the grammar. Reading and Leftmost have what specs/Statements.antt states.
+-- Laws of the grammar. Reading and Leftmost have what specs/Statements.antt states; Lookup to Whole have the ways through the code,
+-- and Emits what the program of a reading says.
 pub mod Name
 pub mod Machine
 pub mod Complete
@@ -13,6 +14,6 @@ mod Scopes
 mod Programs
 mod SuffixWays
 mod ReaderWays
-mod Emits
+pub mod Emits
 mod Whole
 mod Examples
