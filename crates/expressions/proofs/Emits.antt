@@ -2,7 +2,7 @@
 -- first name that is not declared. Assumes nothing.
 use mathlib.Core.Path.{_≡_, refl, sym, ap, subst, _∙_}
 use mathlib.Core.Bool.{Bool, true, false}
-use mathlib.Core.List.{List, [], _∷_, _++_, map, append-assoc}
+use mathlib.Core.List.{List, [], _∷_, _++_, map, map-append, append-assoc}
 use mathlib.Core.Option.{Option, none, some, orElse}
 use Prim.Native.Nat.{ℕ, suc, _+_, _*_, _-_, _≤_, _<_, max, min}
 use native.Mathlib.Omega.{arith}
@@ -16,20 +16,20 @@ use Rattle.algebra.specs.Policy.{Scope, marked}
 use Rattle.algebra.specs.Program.{Step, plus-step, both-step, minus-step, steps}
 use Rattle.algebra.specs.Order.{Op, le, ge, lt, gt, eq}
 use Rattle.algebra.specs.Stored.{storedOp}
+use Rattle.algebra.proofs.Program.{length-steps}
 use Rattle.grammar.specs.Expression as Grammar
 use Rattle.grammar.specs.Expression.{Joiner, plus-sign, and-sign, minus-sign, Exp, one, more, Fac, plain, scoped, closed-by, Pri, table-name, bracket, byteJ, textS, textE, textF, textP}
 use Rattle.grammar.specs.Names as Names
 use Rattle.grammar.specs.Names.{Kind, rule-set, Named, namesS, namesE, namesF, namesP, names, firstMissing, missing}
-use Rattle.grammar.specs.Lookup.{found, place}
-use Rattle.expressions.specs.Entries.{sortNumber}
+use Rattle.grammar.specs.Lookup.{found, place, sortNumber}
 use Rattle.grammar.specs.Tree.{joined, scopeOf, treeOf, treeF, treeP}
-use Rattle.expressions.specs.Cells.{cellOf, cell, opNumber, signNumber, most-cells, most-count, countedTo, operatorsAfter, heightAfter, stored, placeOf, firstPlace, lacking, noted, emitName, emitS, emitE, emitF, emitP, Yields}
-use Rattle.expressions.proofs.Lookup.{stored-sort}
+use Rattle.grammar.specs.Cells.{cellOf, cell, opNumber, signNumber, most-cells, most-count, countedTo, operatorsAfter, heightAfter, stored, placeOf, firstPlace, lacking, noted, emitName, emitS, emitE, emitF, emitP, Yields}
+use Rattle.grammar.proofs.Lookup.{stored-sort}
 use Rattle.grammar.proofs.Names.{entry}
-use Rattle.expressions.specs.declared.Cell.{Cell}
-use Rattle.expressions.specs.declared.Place.{Place}
-use Rattle.expressions.specs.declared.Place.the-variants.{At, Nowhere}
-use Rattle.expressions.specs.declared.Program.{Program}
+use Rattle.grammar.specs.declared.Cell.{Cell}
+use Rattle.grammar.specs.declared.Place.{Place}
+use Rattle.grammar.specs.declared.Place.the-variants.{At, Nowhere}
+use Rattle.grammar.specs.declared.Program.{Program}
 
 -- ---- the cells
 -- p holds the first 193 of the steps xs
@@ -37,10 +37,6 @@ pub record Holds (p : Program) (xs : List (Step Scope)) : Type 0 where
   pub size : length (p .cells) ≡ most-cells
   pub cells-are : map cellOf (take (p .used) (p .cells)) ≡ take most-cells xs
   pub used-is : p .used ≡ min most-cells (length xs)
-
-map-snoc : (l : List Cell) (c : Cell) → map cellOf (l ++ (c ∷ [])) ≡ map cellOf l ++ (cellOf c ∷ [])
-map-snoc [] c = refl
-map-snoc (d ∷ l) c = ap (λ (r : List (Step Scope)). cellOf d ∷ r) (map-snoc l c)
 
 module _ (p : Program) (c : Cell) (xs : List (Step Scope)) (h : Holds p xs) where
   -- there is room for one cell more
@@ -52,7 +48,7 @@ module _ (p : Program) (c : Cell) (xs : List (Step Scope)) (h : Holds p xs) wher
       let b = lt-ltb (p .used) most-cells l in
       let s = h .size in
       let x : map cellOf (take (suc (p .used)) (set (p .cells) (p .used) c)) ≡ xs ++ (cellOf c ∷ []) =
-      ap (map cellOf) (take-suc-set (p .cells) (p .used) c (omega arith)) ∙ map-snoc (take (p .used) (p .cells)) c
+      ap (map cellOf) (take-suc-set (p .cells) (p .used) c (omega arith)) ∙ map-append cellOf (take (p .used) (p .cells)) (c ∷ [])
       ∙ ap (λ (r : List (Step Scope)). r ++ (cellOf c ∷ [])) (h .cells-are ∙ take-all most-cells xs (omega arith)) in
       record {
         size = rw b (length-set (p .cells) (p .used) c ∙ s);
@@ -260,6 +256,31 @@ stored-op lt = refl
 stored-op gt = refl
 stored-op eq = refl
 
+-- a program with nothing in it
+pub record Empty (p : Program) : Type 0 where
+  pub room : length (p .cells) ≡ most-cells
+  pub no-cells : p .used ≡ 0
+  pub no-operators : p .operators ≡ 0
+  pub no-height : p .height ≡ 0
+  pub no-held : p .held ≡ 0
+  pub no-place : p .missing ≡ Nowhere
+
+-- sets held, by the operators
+held-few : (t : Tree Scope) → held t ≤ 2 * operators t + 1
+unfolding held operators
+held-few (table n) = omega arith
+held-few (plus l r) = omega (arith, held-few l, held-few r)
+held-few (both l r) = omega (arith, held-few l, held-few r)
+held-few (minus l r) = omega (arith, held-few l, held-few r)
+held-few (override l m r) = omega (arith, held-few l, held-few m, held-few r)
+held-few (scope c t) = omega (arith, held-few t)
+held-few (closure R t) = omega (arith, held-few t)
+
+or-else-assoc : (x y z : Option ℕ) → orElse (orElse x y) z ≡ orElse x (orElse y z)
+unfolding orElse
+or-else-assoc none y z = refl
+or-else-assoc (some a) y z = refl
+
 -- ---- the program of an expression has the steps of its tree
 module _ (number : Kind → List ℕ → Option ℕ) where
   countsS : (c : Grammar.Scope) (i : ℕ) (p p₁ : Program) (t : Tree Scope) → Counts p p₁ t → Counts p (emitS number c i p₁) (scope (scopeOf number c) t)
@@ -303,11 +324,6 @@ module _ (number : Kind → List ℕ → Option ℕ) where
           → _≡_ {A = Option ℕ} (elim b [ true ↦ firstMissing declared (ms ++ ns) | false ↦ some (m .place) ]) (orElse (elim b [ true ↦ firstMissing declared ms | false ↦ some (m .place) ]) (firstMissing declared ns))
       go true e = e
       go false e = refl
-
-  or-else-assoc : (x y z : Option ℕ) → orElse (orElse x y) z ≡ orElse x (orElse y z)
-  unfolding orElse
-  or-else-assoc none y z = refl
-  or-else-assoc (some a) y z = refl
 
   misses-append : (p p₁ p₂ : Program) (ms ns : List Named) → Misses p p₁ ms → Misses p₁ p₂ ns → Misses p p₂ (ms ++ ns)
   misses-append p p₁ p₂ ms ns x y = y ∙ rw (x, or-else-assoc, first-append ms ns)
@@ -393,25 +409,7 @@ module _ (number : Kind → List ℕ → Option ℕ) where
           length-append (textE g) (41 ∷ []),
         )
 
-  held-few : (t : Tree Scope) → held t ≤ 2 * operators t + 1
-  unfolding held operators
-  held-few (table n) = omega arith
-  held-few (plus l r) = omega (arith, held-few l, held-few r)
-  held-few (both l r) = omega (arith, held-few l, held-few r)
-  held-few (minus l r) = omega (arith, held-few l, held-few r)
-  held-few (override l m r) = omega (arith, held-few l, held-few m, held-few r)
-  held-few (scope c t) = omega (arith, held-few t)
-  held-few (closure R t) = omega (arith, held-few t)
-
   -- ---- from an empty program on
-  pub record Empty (p : Program) : Type 0 where
-    pub room : length (p .cells) ≡ most-cells
-    pub no-cells : p .used ≡ 0
-    pub no-operators : p .operators ≡ 0
-    pub no-height : p .height ≡ 0
-    pub no-held : p .held ≡ 0
-    pub no-place : p .missing ≡ Nowhere
-
   pub yields : (e : Exp) (p : Program) → Empty p → length (textE e) ≤ 32768 → Yields number e (emitE number e 0 p)
   unfolding missing names orElse declared
   yields e p z l =
@@ -429,3 +427,10 @@ module _ (number : Kind → List ℕ → Option ℕ) where
         held-are = omega (arith, z .no-height, z .no-held, x .held-add (omega (arith, z .no-height)));
         missing-is = missesE e 0 p ∙ ap (λ (m : Place). orElse (placeOf m) (firstMissing declared (namesE e 0))) (z .no-place);
       }
+
+  -- at most 64 operators leave room for every step
+  pub whole-program : (e : Exp) (p : Program) → Yields number e p → p .operators ≤ 64 → map cellOf (take (p .used) (p .cells)) ≡ steps (treeOf number e)
+  whole-program e p y l = y .cells-are ∙ take-all most-cells (steps (treeOf number e)) (omega (arith, length-steps (treeOf number e), y .operators-are))
+
+  pub whole-length : (e : Exp) (p : Program) → Yields number e p → p .operators ≤ 64 → p .used ≡ length (steps (treeOf number e))
+  whole-length e p y l = omega (arith, length-steps (treeOf number e), y .operators-are, y .used-is)

@@ -69,20 +69,20 @@ code-object (some object) i = refl
 code-object (some action) i = absurd (omega arith)
 
 -- which delimiter a bracket awaits
-module _ (number : Kind → List ℕ → Option ℕ) (t : List ℕ) (l : Left) (ks : List Frame) where
-  bracket-awaits : Awaits number t 41 (open-bracket l ∷ ks)
+module _ (l : Left) (ks : List Frame) where
+  bracket-awaits : Awaits 41 (open-bracket l ∷ ks)
   unfolding delimited closed parted last
   bracket-awaits = record { no-step = λ a e b x. rw (ne-eqb b 41 x) (cond-same (eqb b 44)); no-end = λ e. refl }
 
-  first-awaits : Awaits number t 44 (open-first l ∷ ks)
+  first-awaits : Awaits 44 (open-first l ∷ ks)
   unfolding delimited closed parted last
   first-awaits = record { no-step = λ a e b x. rw (ne-eqb b 44 x) (cond-same (eqb b 41)); no-end = λ e. refl }
 
-  second-awaits : (e₁ : Exp) → Awaits number t 44 (open-second l e₁ ∷ ks)
+  second-awaits : (e₁ : Exp) → Awaits 44 (open-second l e₁ ∷ ks)
   unfolding delimited closed parted last
   second-awaits e₁ = record { no-step = λ a e b x. rw (ne-eqb b 44 x) (cond-same (eqb b 41)); no-end = λ e. refl }
 
-  third-awaits : (e₁ e₂ : Exp) → Awaits number t 41 (open-third l e₁ e₂ ∷ ks)
+  third-awaits : (e₁ e₂ : Exp) → Awaits 41 (open-third l e₁ e₂ ∷ ks)
   unfolding delimited closed parted last
   third-awaits e₁ e₂ = record { no-step = λ a e b x. rw (ne-eqb b 41 x) (cond-same (eqb b 44)); no-end = λ e. refl }
 
@@ -111,7 +111,7 @@ module _ (number : Kind → List ℕ → Option ℕ) (t : List ℕ) where
     unfolding PartAt
     the-part {c} e x = subst (PartAt number t at a c p q) e x
 
-    the-stuck : {c n : ℕ} {r : Parsed} → r ≡ Bad n → PartAt number t at a c p q r → StuckPart number t at a c n
+    the-stuck : {c n : ℕ} {r : Parsed} → r ≡ Bad n → PartAt number t at a c p q r → StuckPart t at a c n
     unfolding PartAt
     the-stuck {c} e x = subst (PartAt number t at a c p q) e x
 
@@ -138,7 +138,7 @@ module _ (number : Kind → List ℕ → Option ℕ) (t : List ℕ) where
   module _ (at a : ℕ) (p p′ q : Program) where
     pub h-first : {n : ℕ} {r : Parsed} → r ≡ Bad n → PartAt number t at a 44 p q r → OverrideAt number t at a p p′ (Bad n)
     unfolding OverrideAt
-    h-first e x = let s = the-stuck at a p q e x in record { within = s .within; stops = λ ks l. s .stops (open-first l ∷ ks) (first-awaits number t l ks) }
+    h-first e x = let s = the-stuck at a p q e x in record { within = s .within; stops = λ ks l. s .stops (open-first l ∷ ks) (first-awaits l ks) }
 
     module _ {i : ℕ} {r : Parsed} (e : r ≡ Good i) (x : PartAt number t at a 44 p q r) (q₂ : Program) where
       one-read : (ks : List Frame) (l : Left) → run (drop at t) (need a (open-first l ∷ ks) start) ≡ run (drop (i + 1) t) (need a (open-second l (the-exp at a p q 44 e x) ∷ ks) start)
@@ -147,7 +147,7 @@ module _ (number : Kind → List ℕ → Option ℕ) (t : List ℕ) where
 
       pub h-second : {n : ℕ} {r₂ : Parsed} → r₂ ≡ Bad n → PartAt number t (i + 1) a 44 q q₂ r₂ → OverrideAt number t at a p p′ (Bad n)
       unfolding OverrideAt
-      h-second e₂ y = let s = the-stuck (i + 1) a q q₂ e₂ y in record { within = s .within; stops = λ ks l. one-read ks l ∙ s .stops _ (second-awaits number t l ks _) }
+      h-second e₂ y = let s = the-stuck (i + 1) a q q₂ e₂ y in record { within = s .within; stops = λ ks l. one-read ks l ∙ s .stops _ (second-awaits l ks _) }
 
       module _ {j : ℕ} {r₂ : Parsed} (e₂ : r₂ ≡ Good j) (y : PartAt number t (i + 1) a 44 q q₂ r₂) (q₃ : Program) where
         two-read : (ks : List Frame) (l : Left)
@@ -157,7 +157,7 @@ module _ (number : Kind → List ℕ → Option ℕ) (t : List ℕ) where
 
         pub h-third : {n : ℕ} {r₃ : Parsed} → r₃ ≡ Bad n → PartAt number t (j + 1) a 41 q₂ q₃ r₃ → OverrideAt number t at a p p′ (Bad n)
         unfolding OverrideAt
-        h-third e₃ z = let s = the-stuck (j + 1) a q₂ q₃ e₃ z in record { within = s .within; stops = λ ks l. two-read ks l ∙ s .stops _ (third-awaits number t l ks _ _) }
+        h-third e₃ z = let s = the-stuck (j + 1) a q₂ q₃ e₃ z in record { within = s .within; stops = λ ks l. two-read ks l ∙ s .stops _ (third-awaits l ks _ _) }
 
         module _ {n : ℕ} {r₃ : Parsed} (e₃ : r₃ ≡ Good n) (z : PartAt number t (j + 1) a 41 q₂ q₃ r₃) where
           E₁ : Exp
@@ -227,7 +227,7 @@ module _ (number : Kind → List ℕ → Option ℕ) (t : List ℕ) where
 
       pub p-bad : (q : Program) {n : ℕ} {r : Parsed} → r ≡ Bad n → PartAt number t (at + 1) (a - 1) 41 p q r → PrimaryAt number t at a p p′ (Bad n)
       unfolding PrimaryAt
-      p-bad q y x = let s = the-stuck (at + 1) (a - 1) p q y x in record { within = s .within; stops = λ ks l. inside ks l ∙ s .stops _ (bracket-awaits number t l ks) }
+      p-bad q y x = let s = the-stuck (at + 1) (a - 1) p q y x in record { within = s .within; stops = λ ks l. inside ks l ∙ s .stops _ (bracket-awaits l ks) }
 
       pub p-good : {n : ℕ} {r : Parsed} → r ≡ Good n → PartAt number t (at + 1) (a - 1) 41 p p′ r → PrimaryAt number t at a p p′ (Good (n + 1))
       unfolding PrimaryAt step onward joined delimited closed the-exp textF emitF
@@ -252,7 +252,7 @@ module _ (number : Kind → List ℕ → Option ℕ) (t : List ℕ) where
       p-none q x =
           let y = subst (Word t at) q x in
           let e = y .1 in
-          subst (Stuck number t at a) (sym (y .0)) record { within = h; stops = λ ks l. run-none t at (need a ks l) h (rw (e, ne-eqb _ 40 ne)) refl }
+          subst (Stuck t at a) (sym (y .0)) record { within = h; stops = λ ks l. run-none t at (need a ks l) h (rw (e, ne-eqb _ 40 ne)) refl }
 
       word-starts : (ks : List Frame) (l : Left) → Starts (getD t at 0) a ks (at-table l) (need a ks l)
       unfolding step finish

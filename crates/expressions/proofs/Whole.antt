@@ -45,7 +45,7 @@ module _ (number : Kind → List ℕ → Option ℕ) (t : List ℕ) (p q : Progr
         let g = the-expression in
         told-stuck n d (g .within) (g .reads [] ∙ run-stop t n (have 32 [] (g .left) (g .end)) (omega (arith, g .within)) (delims 32 [] _ _ _ (g .no-suffix) (g .no-sign) ∙ top-none 32 _ _))
 
-    pub r-whole : Empty number p → length t ≤ 32768 → n ≡ length t → Answer number t record { answer = Good n; program = q }
+    pub r-whole : Empty p → length t ≤ 32768 → n ≡ length t → Answer number t record { answer = Good n; program = q }
     unfolding Told told finish last
     r-whole z l h =
         let g = the-expression in

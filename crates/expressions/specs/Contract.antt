@@ -156,6 +156,38 @@ unfoldable pub ScopeAt : List ℕ → ℕ → ScopeRead → Type 0
 ScopeAt t at (Scoped x) = ReadsScope t at x
 ScopeAt t at (NoScope p) = StuckBegin t at p
 
+-- within ks no other delimiter than c leads on
+pub record Awaits (c : ℕ) (ks : List Frame) : Type 0 where
+  pub no-step : (a : ℕ) (e : Exp) (b : ℕ) → (b ≡ c → ⊥) → delimited a ks e b ≡ none
+  pub no-end : (e : Exp) → last ks e ≡ stuck []
+
+-- ---- where a part of an expression goes wrong: at p, from `at` on
+module _ (t : List ℕ) where
+  -- after a factor, whatever it is and whatever stands around it; so below
+  pub record StuckSuffix (at p : ℕ) : Type 0 where
+    pub within : p ≤ length t
+    pub stops : (a : ℕ) (ks : List Frame) (l : Left) (f : Fac) → run (drop at t) (have a ks l f) ≡ stuck (drop p t)
+
+  pub record Stuck (at a p : ℕ) : Type 0 where
+    pub within : p ≤ length t
+    pub stops : (ks : List Frame) (l : Left) → run (drop at t) (need a ks l) ≡ stuck (drop p t)
+
+  pub record StuckMore (at a p : ℕ) : Type 0 where
+    pub within : p ≤ length t
+    pub stops : (ks : List Frame) (l : Left) (f : Fac) → run (drop at t) (have a ks l f) ≡ stuck (drop p t)
+
+  pub record StuckAll (at a p : ℕ) : Type 0 where
+    pub within : p ≤ length t
+    pub stops : (ks : List Frame) → run (drop at t) (need a ks start) ≡ stuck (drop p t)
+
+  pub record StuckPart (at a c p : ℕ) : Type 0 where
+    pub within : p ≤ length t
+    pub stops : (ks : List Frame) → Awaits c ks → run (drop at t) (need a ks start) ≡ stuck (drop p t)
+
+  pub record StuckOverride (at a p : ℕ) : Type 0 where
+    pub within : p ≤ length t
+    pub stops : (ks : List Frame) (l : Left) → run (drop at t) (need a (open-first l ∷ ks) start) ≡ stuck (drop p t)
+
 -- ---- the parts of an expression, with names numbered
 module _ (number : Kind → List ℕ → Option ℕ) (t : List ℕ) where
   -- from `at` to n stand suffixes of a factor
@@ -167,17 +199,13 @@ module _ (number : Kind → List ℕ → Option ℕ) (t : List ℕ) where
     pub emits : (f : Fac) (i : ℕ) (q : Program) → at ≡ i + length (textF f) → p ≡ emitF number f i q → p′ ≡ emitF number (with f) i q
     pub reads : (a : ℕ) (ks : List Frame) (l : Left) (f : Fac) → run (drop at t) (have a ks l f) ≡ run (drop n t) (have a ks l (with f))
 
-  pub record StuckSuffix (at p : ℕ) : Type 0 where
-    pub within : p ≤ length t
-    pub stops : (a : ℕ) (ks : List Frame) (l : Left) (f : Fac) → run (drop at t) (have a ks l f) ≡ stuck (drop p t)
-
   unfoldable pub SuffixAt : ℕ → Program → Program → Parsed → Type 0
   SuffixAt at p p′ (Good n) = ReadsSuffixes at n p p′ × (at < n)
-  SuffixAt at p p′ (Bad e) = StuckSuffix at e
+  SuffixAt at p p′ (Bad e) = StuckSuffix t at e
 
   unfoldable pub SuffixesAt : ℕ → Program → Program → Parsed → Type 0
   SuffixesAt at p p′ (Good n) = ReadsSuffixes at n p p′ × (suffixByte (getD t n 0) ≡ false)
-  SuffixesAt at p p′ (Bad e) = StuckSuffix at e
+  SuffixesAt at p p′ (Bad e) = StuckSuffix t at e
 
   -- from `at` to n stands the factor f
   pub record Reads (at a n : ℕ) (f : Fac) (p p′ : Program) : Type 0 where
@@ -187,17 +215,13 @@ module _ (number : Kind → List ℕ → Option ℕ) (t : List ℕ) where
     pub emits : p′ ≡ emitF number f at p
     pub reads : (ks : List Frame) (l : Left) → run (drop at t) (need a ks l) ≡ run (drop n t) (have a ks l f)
 
-  pub record Stuck (at a p : ℕ) : Type 0 where
-    pub within : p ≤ length t
-    pub stops : (ks : List Frame) (l : Left) → run (drop at t) (need a ks l) ≡ stuck (drop p t)
-
   unfoldable pub PrimaryAt : ℕ → ℕ → Program → Program → Parsed → Type 0
   PrimaryAt at a p p′ (Good n) = (q : Pri) × Reads at a n (plain q) p p′
-  PrimaryAt at a p p′ (Bad e) = Stuck at a e
+  PrimaryAt at a p p′ (Bad e) = Stuck t at a e
 
   unfoldable pub FactorAt : ℕ → ℕ → Program → Program → Parsed → Type 0
   FactorAt at a p p′ (Good n) = (f : Fac) × Reads at a n f p p′ × (suffixByte (getD t n 0) ≡ false)
-  FactorAt at a p p′ (Bad e) = Stuck at a e
+  FactorAt at a p p′ (Bad e) = Stuck t at a e
 
   -- from `at` to n stand signs, each with a factor, after an expression's last factor
   pub record ReadsMore (at a n : ℕ) (p p′ : Program) : Type 0 where
@@ -210,13 +234,9 @@ module _ (number : Kind → List ℕ → Option ℕ) (t : List ℕ) where
     pub emits : (l : Left) (f : Fac) (i : ℕ) (q : Program) → at ≡ i + length (textE (join l f)) → p ≡ emitE number (join l f) i q → p′ ≡ emitE number (join (left l f) (end l f)) i q
     pub reads : (ks : List Frame) (l : Left) (f : Fac) → run (drop at t) (have a ks l f) ≡ run (drop n t) (have a ks (left l f) (end l f))
 
-  pub record StuckMore (at a p : ℕ) : Type 0 where
-    pub within : p ≤ length t
-    pub stops : (ks : List Frame) (l : Left) (f : Fac) → run (drop at t) (have a ks l f) ≡ stuck (drop p t)
-
   unfoldable pub MoreAt : ℕ → ℕ → Program → Program → Parsed → Type 0
   MoreAt at a p p′ (Good n) = ReadsMore at a n p p′ × (signCode (getD t n 0) ≡ 0)
-  MoreAt at a p p′ (Bad e) = StuckMore at a e
+  MoreAt at a p p′ (Bad e) = StuckMore t at a e
 
   -- from `at` to n stands an expression: its last factor is `end`, and neither a suffix nor a sign follows
   pub record ReadsExpression (at a n : ℕ) (p p′ : Program) : Type 0 where
@@ -230,27 +250,14 @@ module _ (number : Kind → List ℕ → Option ℕ) (t : List ℕ) where
     pub emits : p′ ≡ emitE number (join left end) at p
     pub reads : (ks : List Frame) → run (drop at t) (need a ks start) ≡ run (drop n t) (have a ks left end)
 
-  -- within ks no other delimiter than c leads on
-  pub record Awaits (c : ℕ) (ks : List Frame) : Type 0 where
-    pub no-step : (a : ℕ) (e : Exp) (b : ℕ) → (b ≡ c → ⊥) → delimited a ks e b ≡ none
-    pub no-end : (e : Exp) → last ks e ≡ stuck []
-
-  pub record StuckAll (at a p : ℕ) : Type 0 where
-    pub within : p ≤ length t
-    pub stops : (ks : List Frame) → run (drop at t) (need a ks start) ≡ stuck (drop p t)
-
-  pub record StuckPart (at a c p : ℕ) : Type 0 where
-    pub within : p ≤ length t
-    pub stops : (ks : List Frame) → Awaits c ks → run (drop at t) (need a ks start) ≡ stuck (drop p t)
-
   unfoldable pub ExpressionAt : ℕ → ℕ → Program → Program → Parsed → Type 0
   ExpressionAt at a p p′ (Good n) = ReadsExpression at a n p p′
-  ExpressionAt at a p p′ (Bad e) = StuckAll at a e
+  ExpressionAt at a p p′ (Bad e) = StuckAll t at a e
 
   -- an expression in brackets, up to the byte c that ends it
   unfoldable pub PartAt : ℕ → ℕ → ℕ → Program → Program → Parsed → Type 0
   PartAt at a c p p′ (Good n) = ReadsExpression at a n p p′ × (getD t n 0 ≡ c)
-  PartAt at a c p p′ (Bad e) = StuckPart at a c e
+  PartAt at a c p p′ (Bad e) = StuckPart t at a c e
 
   -- the three parts of 'o(', from the first on
   pub record ReadsOverride (at a n : ℕ) (p p′ : Program) : Type 0 where
@@ -263,13 +270,9 @@ module _ (number : Kind → List ℕ → Option ℕ) (t : List ℕ) where
     pub emits : (i : ℕ) → at ≡ i + 2 → p′ ≡ emitF number (plain (override x y z)) i p
     pub reads : (ks : List Frame) (l : Left) → run (drop at t) (need a (open-first l ∷ ks) start) ≡ run (drop n t) (have (suc a) ks l (plain (override x y z)))
 
-  pub record StuckOverride (at a p : ℕ) : Type 0 where
-    pub within : p ≤ length t
-    pub stops : (ks : List Frame) (l : Left) → run (drop at t) (need a (open-first l ∷ ks) start) ≡ stuck (drop p t)
-
   unfoldable pub OverrideAt : ℕ → ℕ → Program → Program → Parsed → Type 0
   OverrideAt at a p p′ (Good n) = ReadsOverride at a n p p′
-  OverrideAt at a p p′ (Bad e) = StuckOverride at a e
+  OverrideAt at a p p′ (Bad e) = StuckOverride t at a e
 
   -- ---- a whole text
   unfoldable pub Told : Reading → Made → Type 0

@@ -1,4 +1,4 @@
-// Reading an expression: the first wrong byte, or the steps that compute it.
+// Reading an expression: it is read, its names are looked up, and the postfix program of its tree is made; or the place of its first wrong byte.
 ghost use mathlib.Core.Path.{_≡_};
 ghost use mathlib.Core.Bool.{true};
 ghost use Prim.Native.Nat.{_≤_, _<_, _-_, max};
