@@ -13,7 +13,6 @@ ghost use Rattle.algebra.specs.StoredFrame.{total, sizeOf, parentsOf, Stands};
 ghost use Rattle.algebra.specs.declared.Counts.{Counts};
 ghost use Rattle.algebra.proofs.Run.{Ran};
 ghost use Rattle.sets.specs.Sets.{putSet, Room};
-
 ghost use Rattle.closure.specs.Stored.{Ready, Stored};
 ghost use Rattle.grammar.specs.Cells.{cellOf};
 ghost use Rattle.composer.specs.Compose.{TableIs, Fits, Sized, Composes, Composed, Listed};

@@ -72,8 +72,7 @@ loop-again c =
     let z = c .before .before .before .before .before .before .before .before .before .before .before .pre .0 in
     let l = c .before .before .before .before .before .before .before .loop in
     let long : length (a .t3 .cells) ≡ 193 = sym (length-map (a .t3 .cells) _) ∙ c .before .before .before .before .before .before .before .before .before .before .before .good .1 .1 .0 .1 .1 .0 .1 .0 .1 in
-    let few : a .t3 .used ≤ length (a .t3 .cells) = omega (arith, z .few-cells) in
-    (
+    let few : a .t3 .used ≤ length (a .t3 .cells) = omega (arith, z .few-cells) in (
       omega arith,
       c .before .before .before .step .kept .0 ∙ l .inv .1,
       omega (arith, c .before .before .before .step .ensures .0, l .inv .2, z .low-limit),
