@@ -7,25 +7,24 @@ use native.Mathlib.Numerals.{add-one}
 use native.Mathlib.Omega.{arith}
 use lib.Dec.{eqb}
 use lib.ListN.{length, getD, take, drop, length-map, length-drop, List·getD-map}
-use lib.Seq.{ext-getD, take-suc, take-all, getD-take, getD-drop, length-take-le}
+use lib.Seq.{ext-getD, drop-cons, take-suc, take-all, getD-take, getD-drop, length-take-le}
 use Rattle.algebra.specs.Lists.{gather, only, upto}
 use Rattle.algebra.specs.Answer.{Answer, byte}
-use Rattle.algebra.specs.Algebra.{Model, held}
+use Rattle.algebra.specs.Algebra.{Tree, Model, held}
 use Rattle.algebra.specs.Program.{Step, table-step, steps, after, peak, operands, Ready}
 use Rattle.algebra.specs.Policy.{Policy, Scope, accesses, model, tableAnswer, bytes, policyRounds}
 use Rattle.algebra.specs.declared.Counts.{Counts}
 use Rattle.algebra.specs.declared.StoredRule.{StoredRule}
 use Rattle.algebra.proofs.Run.{Ran, run, composed, composed-answers, composed-rounds}
 use Rattle.algebra.proofs.Program.{one, exec, length-one, exec-append, exec-steps, peak-steps, ready-steps}
-use Rattle.sets.specs.Sets.{Stack, no-set, Answers}
+use Rattle.sets.specs.Sets.{Stack, no-set}
 use Rattle.sets.specs.Grants.{grantAt, grantsOf}
-use Rattle.sets.proofs.Stack.{valuesOf, stack-answers, stack-last}
-use Rattle.closure.proofs.Plans.{accesses-total}
+use Rattle.sets.proofs.Stack.{valuesOf, stack-last}
 use Rattle.grammar.specs.Cells.{cell, cellOf}
 use Rattle.grammar.specs.declared.Cell.{Cell}
 use Rattle.grammar.specs.declared.Program.{Program}
-use Rattle.composer.specs.Compose.{TableIs, cellAt, Composes, Composed}
-use Rattle.composer.specs.Turn.{roundsOf, Held, AllAnswers, Steps, Stepped}
+use Rattle.composer.specs.Compose.{TableIs, cellAt, programOf, Composes, Composed}
+use Rattle.composer.specs.Turn.{roundsOf, Held, Steps, Stepped}
 
 -- ---- the stack after the first steps of a program
 
@@ -33,23 +32,6 @@ module _ (M : Model Scope) (lim : ℕ) (T : ℕ → ℕ → Answer) where
   exec-next : (is : List (Step Scope)) (st : List Ran) (j : ℕ) (d : Step Scope) → j < length is → exec M lim T (take (suc j) is) st ≡ one M lim T (getD is j d) (exec M lim T (take j is) st)
   unfolding exec
   exec-next is st j d h = ap (λ js. exec M lim T js st) (take-suc is j d h) ∙ exec-append M lim T (take j is) (getD is j d ∷ []) st
-
-  -- it holds the next step's operands
-  ready-at : (is : List (Step Scope)) (st : List Ran) → Ready (length st) is → (j : ℕ) (d : Step Scope) → j < length is → operands (getD is j d) ≤ length (exec M lim T (take j is) st)
-  unfolding exec Ready
-  ready-at [] st r j d h = absurd (omega arith)
-  ready-at (i ∷ is) st r zero d h = r .0
-  ready-at (i ∷ is) st r (suc j) d h = ready-at is (one M lim T i st) (subst (λ h. Ready h is) (sym (length-one M lim T i st)) (r .1)) j d (omega arith)
-
-  -- and is no higher than the most
-  peak-at : (is : List (Step Scope)) (st : List Ran) (j : ℕ) → j ≤ length is → length (exec M lim T (take j is) st) ≤ peak (length st) is
-  unfolding exec peak
-  peak-at [] st zero h = omega arith
-  peak-at [] st (suc j) h = absurd (omega arith)
-  peak-at (i ∷ is) st zero h = omega arith
-  peak-at (i ∷ is) st (suc j) h =
-      let r : length (exec M lim T (take j is) (one M lim T i st)) ≤ peak (after (length st) i) is = subst (λ h. length (exec M lim T (take j is) (one M lim T i st)) ≤ peak h is) (length-one M lim T i st) (peak-at is (one M lim T i st) j (omega arith)) in
-      omega arith
 
 unfoldable pub stackAt : Policy → ℕ → List Ran
 stackAt P j = exec (model (P .frame)) (P .limit) (tableAnswer (P .tables)) (take j (steps (P .tree))) []
@@ -60,6 +42,47 @@ unfolding grantsOf
 grants-same table count w w₀ h =
     let e : grantAt w ≡ grantAt w₀ = fun-ext (λ i. rw (h (57344 + 2 * i) (omega arith), h (57345 + 2 * i) (omega arith))) in
     ap (λ g. gather (λ i. only (eqb (g i / 4096) table) (g i % 4096 ∷ [])) (upto count)) e
+
+-- ---- the steps that are left
+
+abbrev pub rest : Program → ℕ → List (Step Scope)
+rest p j = map cellOf (drop j (take (p .used) (p .cells)))
+
+peak-ge : (h : ℕ) (is : List (Step Scope)) → h ≤ peak h is
+unfolding peak
+peak-ge h [] = omega arith
+peak-ge h (i ∷ is) = omega arith
+
+-- what a run asks of the stack, where the program is that of a tree
+pub safe-program : (p : Program) (t : Tree Scope) → programOf p ≡ steps t → held t ≤ 14 → Ready 0 (programOf p) × (peak 0 (programOf p) ≤ 14)
+safe-program p t e h = (subst (Ready 0) (sym e) (ready-steps t 0), subst (λ is. peak 0 is ≤ 14) (sym e) (omega (arith, peak-steps t 0)))
+
+-- the stack has the operands of each step that is left, and never more than 14 sets
+pub record Left (p : Program) (j height : ℕ) : Type 0 where
+  pub operands-there : Ready height (rest p j)
+  pub few : peak height (rest p j) ≤ 14
+
+module _ (p : Program) (j height : ℕ) (long : p .used ≤ length (p .cells)) (less : j < p .used) (l : Left p j height) where
+  rest-next : rest p j ≡ cellOf (cellAt p j) ∷ rest p (j + 1)
+  rest-next =
+      let t : List Cell = take (p .used) (p .cells) in
+      ap (map cellOf) (drop-cons t j (cell 0 0 0 0) (omega (arith, length-take-le (p .used) (p .cells) long)))
+      ∙ ap (λ c. cellOf c ∷ rest p (suc j)) (getD-take (p .used) (p .cells) j (cell 0 0 0 0) less)
+      ∙ ap (λ k. cellOf (cellAt p j) ∷ rest p k) (sym (add-one j))
+
+  ready-now : Ready height (cellOf (cellAt p j) ∷ rest p (j + 1))
+  ready-now = subst (Ready height) rest-next (l .operands-there)
+
+  peak-now : peak height (cellOf (cellAt p j) ∷ rest p (j + 1)) ≤ 14
+  peak-now = subst (λ is. peak height is ≤ 14) rest-next (l .few)
+
+  pub is-held : Held (cellAt p j) height
+  unfolding Ready peak
+  is-held = let g = peak-ge (after height (cellOf (cellAt p j))) (rest p (j + 1)) in record { least = ready-now .0; most = omega (arith, peak-now); next = omega (arith, peak-now) }
+
+  pub left-next : (height′ : ℕ) → height′ ≡ after height (cellOf (cellAt p j)) → Left p (j + 1) height′
+  unfolding Ready peak
+  left-next height′ e = rw e (record { operands-there = ready-now .1; few = omega (arith, peak-now) })
 
 -- after the first j cells: how high the stack is, where it lies, and the rounds so far
 pub record At (P : Policy) (w₀ w : List ℕ) (j height rounds : ℕ) : Type 0 where
@@ -88,24 +111,6 @@ module _ (P : Policy) (n : Counts) (w₀ t : List ℕ) (p : Program) (here : Lis
     next-stack =
         exec-next (model (P .frame)) (P .limit) (tableAnswer (P .tables)) (steps (P .tree)) [] j (cellOf (cell 0 0 0 0)) (omega (arith, length-program))
         ∙ ap (λ i. one (model (P .frame)) (P .limit) (tableAnswer (P .tables)) i (stackAt P j)) (step-at j less)
-
-    most-at : (j : ℕ) → j ≤ p .used → length (stackAt P j) ≤ 14
-    unfolding stackAt
-    most-at j h =
-        omega (arith, peak-at (model (P .frame)) (P .limit) (tableAnswer (P .tables)) (steps (P .tree)) [] j (omega (arith, length-program)), peak-steps (P .tree) 0, cp .few-sets)
-
-    pub is-held : Held (cellAt p j) height
-    unfolding stackAt
-    is-held =
-        let r = ready-at (model (P .frame)) (P .limit) (tableAnswer (P .tables)) (steps (P .tree)) [] (ready-steps (P .tree) 0) j (cellOf (cell 0 0 0 0)) (omega (arith, length-program)) in
-        let q : operands (cellOf (cellAt p j)) ≤ length (stackAt P j) = subst (λ i. operands i ≤ length (stackAt P j)) (step-at j less) r in
-        let e : length (stackAt P (suc j)) ≡ after (length (stackAt P j)) (cellOf (cellAt p j)) = ap length next-stack ∙ length-one (model (P .frame)) (P .limit) (tableAnswer (P .tables)) (cellOf (cellAt p j)) (stackAt P j) in
-        let m : after height (cellOf (cellAt p j)) ≡ after (length (stackAt P j)) (cellOf (cellAt p j)) = ap (λ h. after h (cellOf (cellAt p j))) (a .high) in
-        record { least = omega (arith, a .high); most = omega (arith, a .high, most-at j (omega arith)); next = omega (arith, most-at (suc j) (omega arith)) }
-
-    -- the sets on the stack are of answers
-    pub all-answers : (size : ℕ) → size ≡ accesses (P .frame) → AllAnswers height size w
-    all-answers size e k h = subst (λ m. Answers k m w) (sym e) (stack-answers (a .stack) k (omega (arith, a .high, length-map (stackAt P j) (λ (r : Ran). r .values))))
 
     pub can-step : Steps P n w t (cellAt p j) here grants rules many limit height (stackAt P j)
     can-step =
