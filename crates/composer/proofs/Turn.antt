@@ -23,11 +23,11 @@ use Rattle.algebra.proofs.Algebra.{length-permits}
 use Rattle.algebra.proofs.Run.{Ran, valueAt, merge, replace, shut}
 use Rattle.algebra.proofs.Program.{one}
 use Rattle.sets.specs.Bytes.{put}
-use Rattle.sets.specs.Sets.{answerAt, setAt, putSet, operation, replaced, Stack, no-set, set-on}
+use Rattle.sets.specs.Sets.{answerAt, setAt, putSet, Answers, operation, replaced, Stack, no-set, set-on}
 use Rattle.sets.specs.Grants.{grantsOf}
 use Rattle.sets.proofs.Bytes.{put-high, part-put}
 use Rattle.sets.proofs.Sets.{answerOf-byte, putSet-high}
-use Rattle.sets.proofs.Stack.{valuesOf, length-shut, step-table, step-plus, step-both, step-minus, step-override, step-scope, step-closure, here-answers, away-answers}
+use Rattle.sets.proofs.Stack.{valuesOf, stack-answers, length-shut, step-table, step-plus, step-both, step-minus, step-override, step-scope, step-closure, here-answers, away-answers}
 use Rattle.closure.specs.Closed.{answersOf, ClosedTo}
 use Rattle.expressions.specs.Cells.{cellOf}
 use Rattle.expressions.specs.declared.Cell.{Cell}
@@ -147,6 +147,13 @@ module _ (P : Policy) (n : Counts) (size : ℕ) (w w′ t : List ℕ) (c : Cell)
 
   few′ : N ≤ 4096
   few′ = omega arith
+
+  -- the sets on the stack are of answers
+  pub on-answers : (k : ℕ) → k < height → Answers k size w
+  on-answers k h = subst (λ m. Answers k m w) (sym is-size) (stack-answers (s .stack) k (omega (arith, s .on-stack, length-map st (λ (r : Ran). r .values))))
+
+  pub all-answers : (k : ℕ) → k < height → Answers k N w
+  all-answers k h = stack-answers (s .stack) k (omega (arith, s .on-stack, length-map st (λ (r : Ran). r .values)))
 
   pub stepped-table : c .kind ≡ 0 → height < 14 → w′ ≡ putSet height size (tableAnswer (P .tables) (c .number)) w → Stepped P c st w 0 w′
   stepped-table e h q =

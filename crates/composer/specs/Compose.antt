@@ -6,9 +6,9 @@ use Prim.Native.Nat.{ℕ, _+_, _*_, _≤_, _<_}
 use lib.Dec.{eqb}
 use lib.ListN.{length, getD, take, drop}
 use Rattle.algebra.specs.Sort.{Sort}
-use Rattle.algebra.specs.Algebra.{held}
-use Rattle.algebra.specs.Program.{steps}
-use Rattle.algebra.specs.Policy.{Frame, Table, Policy, members, accesses, isMarked, tableAt, bytes, policyRounds}
+use Rattle.algebra.specs.Program as Steps
+use Rattle.algebra.specs.Program.{Step, steps}
+use Rattle.algebra.specs.Policy.{Frame, Table, Policy, Scope, members, accesses, isMarked, tableAt, bytes, policyRounds}
 use Rattle.algebra.specs.Stored.{storedSort}
 use Rattle.algebra.specs.StoredFrame.{sizeOf, total, parentsOf}
 use Rattle.algebra.specs.declared.Counts.{Counts}
@@ -33,7 +33,12 @@ pub record Fits (n : Counts) (c : Cell) : Type 0 where
 abbrev pub cellAt : Program → ℕ → Cell
 cellAt p j = getD (p .cells) j (cell 0 0 0 0)
 
--- What a run asks of its data so that every index is in its range: w and t are how many bytes the memory and the table have.
+-- the steps that the used cells stand for
+abbrev pub programOf : Program → List (Step Scope)
+programOf p = map cellOf (take (p .used) (p .cells))
+
+-- What a run asks of its data so that every index is in its range, and that the stack always has a step's operands and never more than 14 sets.
+-- w and t are how many bytes the memory and the table have.
 pub record Sized (n : Counts) (w t : ℕ) (p : Program) (grants : ℕ) (rules : List StoredRule) (many limit : ℕ) : Type 0 where
   pub memory : 65536 ≤ w
   pub closes : Ready n (total n) t rules many
@@ -41,12 +46,13 @@ pub record Sized (n : Counts) (w t : ℕ) (p : Program) (grants : ℕ) (rules : 
   pub low-limit : limit ≤ 4096
   pub few-cells : p .used ≤ 193
   pub fits : (j : ℕ) → j < p .used → Fits n (cellAt p j)
+  pub operands : Steps.Ready 0 (programOf p)
+  pub few-sets : Steps.peak 0 (programOf p) ≤ 14
 
 -- The data is that of the policy: its frame, its expression as a program, the tables that this names, and the limit.
 pub record Composes (P : Policy) (n : Counts) (w t : List ℕ) (p : Program) (here : List ℕ) (grants : ℕ) (rules : List StoredRule) (many limit : ℕ) : Type 0 where
   pub frame : Stored (P .frame) n t rules many
-  pub program : map cellOf (take (p .used) (p .cells)) ≡ steps (P .tree)
-  pub few-sets : held (P .tree) ≤ 14
+  pub program : programOf p ≡ steps (P .tree)
   pub tables : (j : ℕ) → j < p .used → cellAt p j .kind ≡ 0 → TableIs (P .tables) here grants w (cellAt p j .number)
   pub same-limit : P .limit ≡ limit
 

@@ -14,7 +14,7 @@ use Rattle.algebra.specs.declared.StoredRule.{StoredRule}
 use Rattle.algebra.proofs.Run.{Ran}
 use Rattle.algebra.proofs.Program.{one}
 use Rattle.sets.specs.Bytes.{put}
-use Rattle.sets.specs.Sets.{setAt, Answers, Stack}
+use Rattle.sets.specs.Sets.{setAt, Stack}
 use Rattle.sets.proofs.Stack.{valuesOf}
 use Rattle.closure.specs.Stored.{Stored}
 use Rattle.closure.specs.Closed.{answersOf}
@@ -37,10 +37,6 @@ pub record Held (c : Cell) (height : ℕ) : Type 0 where
   pub least : operands (cellOf c) ≤ height
   pub most : height ≤ 14
   pub next : after height (cellOf c) ≤ 14
-
--- the first sets are of answers
-abbrev pub AllAnswers : ℕ → ℕ → List ℕ → Type 0
-AllAnswers height n w = (k : ℕ) → k < height → Answers k n w
 
 -- The data is that of the policy at one cell, and the stack lies in the memory.
 pub record Steps (P : Policy) (n : Counts) (w t : List ℕ) (c : Cell) (here : List ℕ) (grants : ℕ) (rules : List StoredRule) (many limit height : ℕ) (st : List Ran) : Type 0 where

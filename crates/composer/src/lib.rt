@@ -13,11 +13,10 @@ ghost use Rattle.algebra.specs.StoredFrame.{total, sizeOf, parentsOf, Stands};
 ghost use Rattle.algebra.specs.declared.Counts.{Counts};
 ghost use Rattle.algebra.proofs.Run.{Ran};
 ghost use Rattle.sets.specs.Sets.{putSet, Room};
-
 ghost use Rattle.closure.specs.Stored.{Ready, Stored};
 ghost use Rattle.expressions.specs.Cells.{cellOf};
 ghost use Rattle.composer.specs.Compose.{TableIs, Fits, Sized, Composes, Composed, Listed};
-ghost use Rattle.composer.specs.Turn.{ClosedAt, Held, AllAnswers, Steps, Stepped};
+ghost use Rattle.composer.specs.Turn.{ClosedAt, Held, Steps, Stepped};
 use algebra::Counts;
 use algebra::StoredRule;
 use closure::closure;
@@ -108,7 +107,6 @@ fn step(
     requires { ⌜ (65536 ≤ length (now w)) × (grants ≤ 4096) ⌝ }
     requires { ⌜ Ready n size (length (now t)) rules many ⌝ }
     requires { ⌜ Fits n c × Held c height ⌝ }
-    requires { ⌜ AllAnswers height size (now w) ⌝ }
     ensures { λ r. ⌜ (r ≤ limit) × ((P : Policy) (st : List Ran) → Steps P n (now (w .entry)) (now (t .entry)) c here grants rules many limit height st → Stepped P c st (now (w .entry)) r (now (w .exit))) ⌝ }
 {
     if c.kind == 0 {
@@ -163,7 +161,6 @@ pub fn run(
     limit: usize,
 ) -> usize
     requires { ⌜ Sized n (length (now w)) (length (now t)) p grants rules many limit ⌝ }
-    requires { ⌜ ((P : Policy) × Composes P n (now w) (now t) p here grants rules many limit) ⌝ }
     ensures { λ r. ⌜ ((P : Policy) → Composes P n (now (w .entry)) (now (t .entry)) p here grants rules many limit → Composed P (now (w .entry)) r (now (w .exit))) ⌝ }
 {
     let size = accesses(n);

@@ -191,8 +191,10 @@ bySubject p k z s = turns (z .objects) (byObject p k z s)
 abbrev pub Each : Counts → List ℕ → StoredScope → ((ℕ → Bool) → Type 0) → Type 0
 Each z t c P = (fr : Frame) → Stands fr z t → Names fr (storedScope c) → P (inScope fr (storedScope c))
 
-pub walked : (fr : Frame) (k : ℕ) (z : Counts) (t : List ℕ) (p : ℕ → Bool) (w : List ℕ) → Stands fr z t → k * 4096 + total z ≤ length w → Answers k (total z) w
+pub walked : (fr : Frame) (k : ℕ) (z : Counts) (t : List ℕ) (p : ℕ → Bool) (w : List ℕ) → Stands fr z t → k * 4096 + total z ≤ length w → Answers k (accesses fr) w
     → turns (z .subjects) (bySubject p k z) w ≡ putSet k (accesses fr) (λ x. keep (p x) (answerAt k w x)) w
 walked fr k z t p w d fits ans =
-    turns-three (z .subjects) (z .objects) (z .actions) (keepAt p k) w ∙ kept p k (total z) w fits ans (total z) (omega arith)
-    ∙ ap (λ n. putSet k n (λ x. keep (p x) (answerAt k w x)) w) (rw (d .counts subject, d .counts object, d .counts action) refl)
+    let e : accesses fr ≡ total z = rw (d .counts subject, d .counts object, d .counts action) in
+    turns-three (z .subjects) (z .objects) (z .actions) (keepAt p k) w
+    ∙ kept p k (total z) w fits (subst (λ n. Answers k n w) e ans) (total z) (omega arith)
+    ∙ ap (λ n. putSet k n (λ x. keep (p x) (answerAt k w x)) w) (sym e)

@@ -95,8 +95,7 @@ pub fn fill_here(w: &mut [u8], k: usize, n: usize, table: u8, grants: usize)
 
 // `+` by 0, `&` by 1, `-` by 2.
 fn joined(op: u8, x: u8, y: u8) -> u8
-    requires { ⌜ (x ≤ 2) × (y ≤ 2) ⌝ }
-    ensures { λ r. ⌜ r ≡ byte (operation op (answerOf x) (answerOf y)) ⌝ }
+    ensures { λ r. ⌜ (x ≤ 2 → y ≤ 2 → r ≡ byte (operation op (answerOf x) (answerOf y))) ⌝ }
 {
     if op == 0 {
         return larger(x, y);
@@ -110,8 +109,7 @@ fn joined(op: u8, x: u8, y: u8) -> u8
 // Set k becomes what an operation makes of it and of the set above: `+` by 0, `&` by 1, `-` by 2.
 pub fn combine(w: &mut [u8], k: usize, n: usize, op: u8)
     requires { ⌜ Room (k + 1) n (now w) ⌝ }
-    requires { ⌜ Answers k n (now w) × Answers (k + 1) n (now w) ⌝ }
-    ensures { λ _. ⌜ now (w .exit) ≡ putSet k n (λ x. operation op (answerAt k (now (w .entry)) x) (answerAt (k + 1) (now (w .entry)) x)) (now (w .entry)) ⌝ }
+    ensures { λ _. ⌜ (Answers k n (now (w .entry)) → Answers (k + 1) n (now (w .entry)) → now (w .exit) ≡ putSet k n (λ x. operation op (answerAt k (now (w .entry)) x) (answerAt (k + 1) (now (w .entry)) x)) (now (w .entry))) ⌝ }
 {
     let left = k * 4096;
     let right = left + 4096;
@@ -125,8 +123,7 @@ pub fn combine(w: &mut [u8], k: usize, n: usize, op: u8)
 // Set k becomes `o(..)` of it and of the two sets above.
 pub fn replace(w: &mut [u8], k: usize, n: usize)
     requires { ⌜ Room (k + 2) n (now w) ⌝ }
-    requires { ⌜ Answers k n (now w) × Answers (k + 1) n (now w) × Answers (k + 2) n (now w) ⌝ }
-    ensures { λ _. ⌜ now (w .exit) ≡ putSet k n (λ x. replaced (answerAt k (now (w .entry)) x) (answerAt (k + 1) (now (w .entry)) x) (answerAt (k + 2) (now (w .entry)) x)) (now (w .entry)) ⌝ }
+    ensures { λ _. ⌜ (Answers k n (now (w .entry)) → Answers (k + 1) n (now (w .entry)) → Answers (k + 2) n (now (w .entry)) → now (w .exit) ≡ putSet k n (λ x. replaced (answerAt k (now (w .entry)) x) (answerAt (k + 1) (now (w .entry)) x) (answerAt (k + 2) (now (w .entry)) x)) (now (w .entry))) ⌝ }
 {
     let first = k * 4096;
     let second = first + 4096;
@@ -191,8 +188,7 @@ fn passes(t: &[u8], c: StoredScope, m: u8) -> bool
 pub fn scope(w: &mut [u8], k: usize, t: &[u8], z: Counts, c: StoredScope)
     requires { ⌜ Room k (total z) (now w) × Sized z × (length (now t) ≡ 16384) ⌝ }
     requires { ⌜ Coded c ⌝ }
-    requires { ⌜ Answers k (total z) (now w) ⌝ }
-    ensures { λ _. ⌜ ((fr : Frame) → Stands fr z (now (t .entry)) → Names fr (storedScope c) → now (w .exit) ≡ putSet k (accesses fr) (λ x. keep (inScope fr (storedScope c) x) (answerAt k (now (w .entry)) x)) (now (w .entry))) ⌝ }
+    ensures { λ _. ⌜ ((fr : Frame) → Stands fr z (now (t .entry)) → Names fr (storedScope c) → Answers k (accesses fr) (now (w .entry)) → now (w .exit) ≡ putSet k (accesses fr) (λ x. keep (inScope fr (storedScope c) x) (answerAt k (now (w .entry)) x)) (now (w .entry))) ⌝ }
 {
     let at = k * 4096;
     let subjects = z.subjects;

@@ -52,7 +52,7 @@ passes-requires :
     tie.Need-passes-requires Inv-actions μ-actions Inv-objects μ-objects Inv-subjects μ-subjects
 passes-requires c κs =
     let a = c .before .before .before .before .before .before .before .before .before .args in
-    (c .before .before .before .before .before .before .before .before .before .pre .0 .2, (c .before .before .before .before .before .before .before .before .before .pre .1 .0, omega (arith, member-small (storedSort (a .c .sort)) (a .z) _ _ _ (c .before .before .before .before .before .before .before .before .before .pre .0 .1) (c .before .before .before .before .before .subjects-test .taken) (c .before .before .before .objects-test .taken) (c .before .actions-test .taken), c .member .ensures)))
+    (c .before .before .before .before .before .before .before .before .before .pre .0 .2, (c .before .before .before .before .before .before .before .before .before .pre .1, omega (arith, member-small (storedSort (a .c .sort)) (a .z) _ _ _ (c .before .before .before .before .before .before .before .before .before .pre .0 .1) (c .before .before .before .before .before .subjects-test .taken) (c .before .before .before .objects-test .taken) (c .before .actions-test .taken), c .member .ensures)))
 
 access-requires :
     tie.Need-access-requires Inv-actions μ-actions Inv-objects μ-objects Inv-subjects μ-subjects
@@ -146,8 +146,8 @@ same-length c = c .before .subjects .inv .1
 
 returns : tie.Need-returns Inv-actions μ-actions Inv-objects μ-objects Inv-subjects μ-subjects
 returns c = let a = c .before .before .before .before .args in
-    λ fr st nm. turns-done (bySubject (inScope fr (storedScope (a .c))) (a .k) (a .z)) _ (c .before .subjects .inv .0) (c .subjects-test .left) (c .before .subjects .inv .2 fr st nm)
-    ∙ walked fr (a .k) (a .z) (a .t .now) (inScope fr (storedScope (a .c))) (a .w .now) st (omega arith) (c .before .before .before .before .pre .1 .1)
+    λ fr st nm ans. turns-done (bySubject (inScope fr (storedScope (a .c))) (a .k) (a .z)) _ (c .before .subjects .inv .0) (c .subjects-test .left) (c .before .subjects .inv .2 fr st nm)
+    ∙ walked fr (a .k) (a .z) (a .t .now) (inScope fr (storedScope (a .c))) (a .w .now) st (omega arith) ans
 
 pub scope-spec : {M : Type 1} → statement M
 scope-spec =
