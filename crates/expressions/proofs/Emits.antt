@@ -17,19 +17,20 @@ use Rattle.algebra.specs.Program.{Step, plus-step, both-step, minus-step, steps
 use Rattle.algebra.specs.Order.{Op, le, ge, lt, gt, eq}
 use Rattle.algebra.specs.Stored.{storedOp}
 use Rattle.algebra.proofs.Program.{length-steps}
 use Rattle.grammar.specs.Expression as Grammar
 use Rattle.grammar.specs.Expression.{Joiner, plus-sign, and-sign, minus-sign, Exp, one, more, Fac, plain, scoped, closed-by, Pri, table-name, bracket, byteJ, textS, textE, textF, textP}
 use Rattle.grammar.specs.Names as Names
 use Rattle.grammar.specs.Names.{Kind, rule-set, Named, namesS, namesE, namesF, namesP, names, firstMissing, missing}
-use Rattle.grammar.specs.Lookup.{found, place, sortNumber}
+use Rattle.grammar.specs.Lookup.{found, place}
+use Rattle.expressions.specs.Entries.{sortNumber}
 use Rattle.grammar.specs.Tree.{joined, scopeOf, treeOf, treeF, treeP}
-use Rattle.grammar.specs.Cells.{cellOf, cell, opNumber, signNumber, most-cells, most-count, countedTo, operatorsAfter, heightAfter, stored, placeOf, firstPlace, lacking, noted, emitName, emitS, emitE, emitF, emitP, Yields}
-use Rattle.grammar.proofs.Lookup.{stored-sort}
+use Rattle.expressions.specs.Cells.{cellOf, cell, opNumber, signNumber, most-cells, most-count, countedTo, operatorsAfter, heightAfter, stored, placeOf, firstPlace, lacking, noted, emitName, emitS, emitE, emitF, emitP, Yields}
+use Rattle.expressions.proofs.Lookup.{stored-sort}
 use Rattle.grammar.proofs.Names.{entry}
-use Rattle.grammar.specs.declared.Cell.{Cell}
-use Rattle.grammar.specs.declared.Place.{Place}
-use Rattle.grammar.specs.declared.Place.the-variants.{At, Nowhere}
-use Rattle.grammar.specs.declared.Program.{Program}
+use Rattle.expressions.specs.declared.Cell.{Cell}
+use Rattle.expressions.specs.declared.Place.{Place}
+use Rattle.expressions.specs.declared.Place.the-variants.{At, Nowhere}
+use Rattle.expressions.specs.declared.Program.{Program}
 
 -- ---- the cells
 -- p holds the first 193 of the steps xs

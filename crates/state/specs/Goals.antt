@@ -8,8 +8,8 @@ use Rattle.algebra.specs.Program.{steps}
 use Rattle.grammar.specs.Expression.{Exp}
 use Rattle.grammar.specs.Machine.{read, reading}
 use Rattle.grammar.specs.Tree.{treeOf}
-use Rattle.grammar.specs.Cells.{cellOf}
-use Rattle.grammar.specs.declared.Program.{Program}
+use Rattle.expressions.specs.Cells.{cellOf}
+use Rattle.expressions.specs.declared.Program.{Program}
 use Rattle.reader.specs.Line.{expressionLine}
 use Rattle.reader.specs.Declarations.{Declared}
 use Rattle.reader.specs.Expression.{lookup}

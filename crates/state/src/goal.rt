@@ -2,19 +2,19 @@
 use crate::State;
 use crate::bad_counts;
 use crate::late;
-use grammar::Cell;
-use grammar::NameCounts;
-use grammar::Parsed;
-use grammar::Place;
-use grammar::Program;
-use grammar::read;
-use reader::text::Part;
+use expressions::Cell;
+use expressions::NameCounts;
+use expressions::Parsed;
+use expressions::Place;
+use expressions::Program;
+use expressions::read;
+use lines::text::Part;
 ghost use mathlib.Core.Path.{_≡_};
 ghost use Prim.Native.Nat.{_≤_};
 ghost use lib.ListN.{length};
-ghost use Rattle.grammar.specs.Lookup.{Sound};
+ghost use Rattle.expressions.specs.Entries.{Sound};
 ghost use Rattle.reader.specs.Declarations.{Declared};
-ghost use Rattle.reader.specs.Parsed.{Within, textOf};
+ghost use Rattle.lines.specs.Parsed.{Within, textOf};
 ghost use Rattle.state.specs.Standing.{NamesStand};
 ghost use Rattle.state.specs.Goals.{GoalJudged, endedOf};
 
