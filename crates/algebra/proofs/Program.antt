@@ -7,7 +7,7 @@ use lib.ListN.{length, length-append}
 use Rattle.algebra.specs.Lists.{tab}
 use Rattle.algebra.specs.Answer.{Answer, _⊔_, _⊓_, _⊖_, keep}
 use Rattle.algebra.specs.Algebra.{Tree, table, plus, both, minus, override, scope, closure, held, operators, Model}
-use Rattle.algebra.specs.Program.{Step, table-step, plus-step, both-step, minus-step, override-step, scope-step, closure-step, steps, after, peak}
+use Rattle.algebra.specs.Program.{Step, table-step, plus-step, both-step, minus-step, override-step, scope-step, closure-step, steps, after, peak, operands, Ready}
 use Rattle.algebra.proofs.Run.{Ran, valueAt, merge, replace, shut, run}
 
 -- ---- the program on a stack of sets
@@ -173,20 +173,7 @@ module _ {C : Type 0} where
 
 -- ---- at every step the stack holds the step's operands
 
-unfoldable pub operands : {C : Type 0} → Step C → ℕ
-operands (table-step n) = 0
-operands plus-step = 2
-operands both-step = 2
-operands minus-step = 2
-operands override-step = 3
-operands (scope-step c) = 1
-operands (closure-step R) = 1
-
 module _ {C : Type 0} where
-  unfoldable pub Ready : ℕ → List (Step C) → Type 0
-  Ready h [] = Unit {0}
-  Ready h (i ∷ is) = (operands i ≤ h) × Ready (after h i) is
-
   ready-append : (h : ℕ) (is js : List (Step C)) → Ready h is → Ready (final h is) js → Ready h (is ++ js)
   unfolding Ready final
   ready-append h [] js r s = s

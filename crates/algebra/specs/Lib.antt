@@ -9,4 +9,5 @@ pub mod Algebra
 pub mod Program
 pub mod Policy
 pub mod Stored
+pub mod StoredFrame
 pub mod Demands

@@ -1,6 +1,6 @@
 -- The postfix program of a tree: steps on a stack of sets, and the most sets on the stack while they run.
 use mathlib.Core.List.{List, [], _∷_, _++_}
-use Prim.Native.Nat.{ℕ, suc, _-_, max}
+use Prim.Native.Nat.{ℕ, suc, _-_, _≤_, max}
 use Rattle.algebra.specs.Algebra.{Tree, table, plus, both, minus, override, scope, closure}
 
 -- a step puts a table's set on the stack, or puts one set in the place of its operands
@@ -34,3 +34,19 @@ unfoldable pub peak : {C : Type 0} → ℕ → List (Step C) → ℕ
 unfolding after
 peak h [] = h
 peak h (i ∷ is) = max h (peak (after h i) is)
+
+-- how many sets a step takes from the stack
+unfoldable pub operands : {C : Type 0} → Step C → ℕ
+operands (table-step n) = 0
+operands plus-step = 2
+operands both-step = 2
+operands minus-step = 2
+operands override-step = 3
+operands (scope-step c) = 1
+operands (closure-step R) = 1
+
+-- at every step the stack holds the step's operands
+unfoldable pub Ready : {C : Type 0} → ℕ → List (Step C) → Type 0
+unfolding after operands
+Ready h [] = Unit {0}
+Ready h (i ∷ is) = (operands i ≤ h) × Ready (after h i) is

@@ -13,7 +13,7 @@ use Rattle.algebra.specs.Sort.{subject, object, action}
 use Rattle.algebra.specs.Policy.{Policy, accesses, members, number, bytes, policyRounds}
 use Rattle.algebra.proofs.Bool.{and-left, and-right}
 use Rattle.algebra.proofs.Bytes.{length-bytes}
-use Rattle.reader.specs.Declared.{memberAt}
+use Rattle.reader.specs.Declarations.{memberAt}
 use Rattle.reader.specs.File.{Accepted, Outcome, refused, accepted, readFile}
 use Rattle.reader.proofs.Rows.{refused-number}
 use Rattle.engine.specs.Calls.{Composed, Decided, cleared, written, unchanged, composition, composed, compose, undecidedBy, answered, decided, decide}

@@ -16,7 +16,7 @@ use Rattle.algebra.specs.Algebra.{permits, decided}
 use Rattle.algebra.specs.Policy.{Policy, Frame, members, number, accesses, clauses, inScope, part, tableAnswer, bytes, policyRounds}
 use Rattle.algebra.proofs.Bool.{and-both}
 use Rattle.algebra.proofs.Run.{composed, composed-answers, composed-rounds}
-use Rattle.reader.specs.Declared.{Members, membersOf, memberAt}
+use Rattle.reader.specs.Declarations.{Members, membersOf, memberAt}
 use Rattle.reader.specs.File.{Accepted, Outcome, refused, accepted, readFile}
 use Rattle.grammar.specs.Text.{text}
 use Rattle.reader.proofs.Computed.{computedFile}

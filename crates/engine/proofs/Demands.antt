@@ -15,7 +15,7 @@ use Rattle.algebra.specs.Demands as Policies
 use Rattle.algebra.proofs.Number.{number-lt}
 use Rattle.algebra.proofs.Bytes.{length-bytes, bytes-at}
 use Rattle.algebra.proofs.Demands.{policy-sound, policy-complete, policy-stable}
-use Rattle.reader.specs.Declared.{memberAt, membersOf}
+use Rattle.reader.specs.Declarations.{memberAt, membersOf}
 use Rattle.reader.specs.File.{Accepted, Outcome, refused, accepted, readFile}
 use Rattle.reader.specs.Later.{LaterFile}
 use Rattle.reader.proofs.Lookup.{position-lt}

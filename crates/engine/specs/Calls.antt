@@ -7,7 +7,7 @@ use lib.Dec.{eqb, leb}
 use lib.ListN.{length, drop, replicate, getD}
 use Rattle.algebra.specs.Sort.{subject, object, action}
 use Rattle.algebra.specs.Policy.{Policy, accesses, members, number, bytes, policyRounds}
-use Rattle.reader.specs.Declared.{memberAt}
+use Rattle.reader.specs.Declarations.{memberAt}
 use Rattle.reader.specs.File.{Accepted, Outcome, refused, accepted, readFile}
 
 -- ---- what the calls return: number, line and place, all 0 when accepted, and the rest, all 0 when refused

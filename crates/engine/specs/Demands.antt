@@ -9,7 +9,7 @@ use lib.ListN.{length, getD, drop}
 use Rattle.algebra.specs.Sort.{subject, object, action}
 use Rattle.algebra.specs.Order.{Ordered}
 use Rattle.algebra.specs.Policy.{Policy, accesses, parents, members, number, tableAt, policySet, policyRounds}
-use Rattle.reader.specs.Declared.{memberAt}
+use Rattle.reader.specs.Declarations.{memberAt}
 use Rattle.reader.specs.File.{Accepted, Outcome, refused, accepted, readFile}
 use Rattle.reader.specs.Later.{LaterFile}
 use Rattle.engine.specs.Calls.{Checked, Composed, Decided, check, compose, decide}

@@ -9,7 +9,7 @@ use lib.ListN.{length, getD}
 use Rattle.algebra.specs.Sort.{Sort, subject, object, action}
 use Rattle.algebra.specs.Policy.{Policy, Frame, accesses, part, bytes, policyRounds}
 use Rattle.grammar.specs.Text.{text}
-use Rattle.reader.specs.Declared.{Member, Members, membersOf}
+use Rattle.reader.specs.Declarations.{Member, Members, membersOf}
 use Rattle.reader.specs.File.{Accepted, Outcome, refused, accepted, readFile}
 use Rattle.engine.specs.Calls.{tally}
 

@@ -17,10 +17,12 @@ use Rattle.algebra.specs.Demands.{Supplied, Later}
 use Rattle.grammar.specs.Names as Names
 use Rattle.grammar.specs.Names.{Kind, rule-set}
 use Rattle.grammar.specs.Machine.{Reading, read, wrong, reading}
-use Rattle.reader.specs.Text.{same, lines}
+use Rattle.grammar.specs.Lookup.{same, positionFrom, position, found, place}
+use Rattle.grammar.specs.Tree.{treeOf}
+use Rattle.reader.specs.Text.{lines}
 use Rattle.reader.specs.Line.{Line, memberLine, predicateLine, tableLine, grantLine, ruleLine, bodyLine, expressionLine, parse, Spelled, named, variable, Body, grantBody, orderBody, hasBody}
-use Rattle.reader.specs.Declared.{Table, Goal, Declared, positionFrom, position, found, place, tableAt, noTable, granting, withGrant, accessOf, count, termOf, tripleOf, atomOf, start}
-use Rattle.reader.specs.Expression.{lookup, treeOf}
+use Rattle.reader.specs.Declarations.{Table, Goal, Declared, tableAt, noTable, granting, withGrant, accessOf, count, termOf, tripleOf, atomOf, start}
+use Rattle.reader.specs.Expression.{lookup}
 use Rattle.reader.specs.Rows.{declaredAlready}
 use Rattle.reader.specs.File.{Accepted, Outcome, refused, accepted, add, goalOf, frameOf, tablesOf, policyOf, ended, readLines, readFile}
 use Rattle.reader.specs.Later as Lines

@@ -1,3 +1,4 @@
+use Rattle.grammar.specs.Lookup.{same, positionFrom, position, found, place}
 -- Laws of looking up a name: what is found is below the list's length, and stays found as the list grows.
 use mathlib.Core.Path.{_≡_, refl, sym, ap, _∙_}
 use mathlib.Core.Bool.{Bool, true, false, _&&_}
@@ -9,8 +10,6 @@ use lib.ListN.{length}
 use borrow.Author.Tests.{eq-eqb, eqb-true}
 use lib.Dec.{eqb}
 use Rattle.algebra.proofs.Bool.{and-left, and-right}
-use Rattle.reader.specs.Text.{same}
-use Rattle.reader.specs.Declared.{positionFrom, position, found, place}
 
 pub same-refl : (t : List ℕ) → same t t ≡ true
 unfolding same

@@ -14,9 +14,10 @@ use Rattle.algebra.specs.Sort.{Sort, subject, object, action}
 use Rattle.algebra.specs.Order.{Ordered}
 use Rattle.algebra.specs.Policy.{parents, members, accesses}
 use Rattle.algebra.proofs.Bool.{or-left, or-right, either}
-use Rattle.reader.specs.Text.{same, lines}
+use Rattle.grammar.specs.Lookup.{same}
+use Rattle.reader.specs.Text.{lines}
 use Rattle.reader.specs.Line.{Line, memberLine, predicateLine, tableLine, grantLine, ruleLine, bodyLine, expressionLine, parse}
-use Rattle.reader.specs.Declared.{Member, Members, Goal, Declared, membersOf, memberAt, count, withMember, sortGroup, parentOf, groupOf, start}
+use Rattle.reader.specs.Declarations.{Member, Members, Goal, Declared, membersOf, memberAt, count, withMember, sortGroup, parentOf, groupOf, start}
 use Rattle.reader.specs.Rows.{outOfOrder, badCounts}
 use Rattle.reader.specs.File.{Accepted, Outcome, accepted, add, parentsOf, frameOf, policyOf, ended, readLines, readFile}
 use Rattle.reader.proofs.Rows.{Good, good-line, accepted-lines}

@@ -11,7 +11,7 @@ use Rattle.algebra.specs.Lists.{all}
 use Rattle.algebra.proofs.Bool.{and-left, and-right}
 use Rattle.reader.specs.Text.{lines}
 use Rattle.reader.specs.Line.{Line, memberLine, predicateLine, tableLine, grantLine, ruleLine, bodyLine, expressionLine, parse}
-use Rattle.reader.specs.Declared.{Declared, Goal, start}
+use Rattle.reader.specs.Declarations.{Declared, Goal, start}
 use Rattle.reader.specs.Rows.{Row, row, if, Verdict, good, refuse, first, rows, outOfOrder, badCounts, tooMany, declaredAlready, notDeclared, grantsAway, twoSorts, expressionRows}
 use Rattle.reader.specs.File.{Accepted, Outcome, refused, accepted, isFile, ended, judge, after, add, readLines, readFile}
 
@@ -123,10 +123,13 @@ numbered d (ruleLine r s o a) = refl
 numbered d (bodyLine b) = refl
 numbered d (expressionLine n t) = refl
 
+pub rows-number : (d : Declared) (l : Line) (k p : ℕ) → first (rows d l) ≡ refuse k p → 2 ≤ k
+rows-number d l k p e = first-number (rows d l) k p (numbered d l) e
+
 judge-number : (d : Declared) (o : Option Line) (k p : ℕ) → judge d o ≡ refuse k p → 2 ≤ k
 unfolding judge
 judge-number d none k p e = let y : 3 ≡ k = cc in omega arith
-judge-number d (some l) k p e = first-number (rows d l) k p (numbered d l) e
+judge-number d (some l) k p e = rows-number d l k p e
 
 ended-number : (d : Declared) (g : Option Goal) (k l p : ℕ) → ended d g ≡ refused k l p → 2 ≤ k
 unfolding ended

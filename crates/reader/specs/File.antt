@@ -9,10 +9,12 @@ use Rattle.algebra.specs.Sort.{Sort, subject, object, action}
 use Rattle.algebra.specs.Policy.{Policy, Frame}
 use Rattle.algebra.specs.Policy as Algebra
 use Rattle.grammar.specs.Machine.{Reading, read, wrong, reading}
+use Rattle.grammar.specs.Lookup.{place}
+use Rattle.grammar.specs.Tree.{treeOf}
 use Rattle.reader.specs.Text.{lines}
 use Rattle.reader.specs.Line.{Line, memberLine, predicateLine, tableLine, grantLine, ruleLine, bodyLine, expressionLine, parse}
-use Rattle.reader.specs.Declared.{Member, Predicate, Table, Members, Goal, Declared, place, membersOf, memberAt, predicateAt, tableAt, setAt, accessOf, withMember, sortGroup, parentOf, withListed, withGrant, tripleOf, atomOf, withSet, withAtom, start}
-use Rattle.reader.specs.Expression.{lookup, treeOf}
+use Rattle.reader.specs.Declarations.{Member, Predicate, Table, Members, Goal, Declared, membersOf, memberAt, predicateAt, tableAt, setAt, accessOf, withMember, sortGroup, parentOf, withListed, withGrant, tripleOf, atomOf, withSet, withAtom, start}
+use Rattle.reader.specs.Expression.{lookup}
 use Rattle.reader.specs.Rows.{Verdict, good, refuse, first, rows}
 
 -- the number of a name, where it is found or comes next

@@ -9,7 +9,8 @@ use Rattle.algebra.specs.Sort.{Sort, subject, object, action}
 use Rattle.algebra.specs.Order.{Op, le, ge, lt, gt, eq}
 use Rattle.grammar.specs.Name.{isName}
 use Rattle.grammar.specs.Text.{text}
-use Rattle.reader.specs.Text.{same, fields, beforeComma, afterComma, isNumber, spells}
+use Rattle.grammar.specs.Lookup.{same}
+use Rattle.reader.specs.Text.{fields, beforeComma, afterComma, isNumber, spells}
 
 -- a rule's term as it is written: the name of a member, or one of the variables ?0 to ?3
 pub data Spelled : Type 0 where

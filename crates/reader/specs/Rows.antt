@@ -11,9 +11,11 @@ use Rattle.algebra.specs.Algebra.{held, operators}
 use Rattle.algebra.specs.Policy.{Term, member, variable, Triple, Atom, grant, order, mark, Rule}
 use Rattle.grammar.specs.Machine.{Reading, read, wrong, reading}
 use Rattle.grammar.specs.Names.{missing}
+use Rattle.grammar.specs.Lookup.{found, place}
+use Rattle.grammar.specs.Tree.{treeOf}
 use Rattle.reader.specs.Line.{Spelled, named, variable as variableWord, Body, grantBody, orderBody, hasBody, Line, memberLine, predicateLine, tableLine, grantLine, ruleLine, bodyLine, expressionLine}
-use Rattle.reader.specs.Declared.{Declared, Members, found, place, sameSort, count, memberAt, predicateAt, tableAt, setAt, Table, noTable, tripleOf, atomOf, groupOf}
-use Rattle.reader.specs.Expression.{lookup, isDeclared, treeOf}
+use Rattle.reader.specs.Declarations.{Declared, Members, sameSort, count, memberAt, predicateAt, tableAt, setAt, Table, noTable, tripleOf, atomOf, groupOf}
+use Rattle.reader.specs.Expression.{lookup, isDeclared}
 
 -- ---- 4: group out of order; B without a rule; a line after E
 

@@ -1,0 +1,51 @@
+-- `composer::close_set` meets its contract: the part of the memory that is lent is the set.
+use mathlib.Core.Path.{_≡_, sym, _∙_}
+use Prim.Native.Nat.{_+_, _*_, _-_}
+use native.Mathlib.Omega.{arith}
+use Rattle.closure.proofs.Plans.{accesses-total}
+use Rattle.composer.proofs.Turn.{closed-at}
+use borrow.Author.Needs.{needs}
+use Rattle.composer.proofs.close_set.Statement.{statement}
+use Rattle.composer.proofs.close_set.Tie as tie
+
+mul-at : tie.Need-mul-at
+mul-at c = search needs
+
+add-e : tie.Need-add-e
+add-e c = search needs
+
+sub-closure : tie.Need-sub-closure
+sub-closure c = search needs
+
+part-closure-start : tie.Need-part-closure-start
+part-closure-start c = search needs
+
+part-closure-end : tie.Need-part-closure-end
+part-closure-end c = search needs
+
+closure-requires : tie.Need-closure-requires
+closure-requires c κs = search needs
+
+same-length : tie.Need-same-length
+same-length c = search needs
+
+returns : tie.Need-returns
+returns c =
+    let a = c .before .before .before .before .before .before .args in
+    let m : a .k * 4096 + a .size - a .k * 4096 ≡ a .size = omega arith in (
+      c .before .before .closure .ensures .0,
+      λ fr st. closed-at fr (a .set) (a .limit) (a .k) (a .k * 4096 + a .size - a .k * 4096) (a .w .now) (c .before .before .closure .last .0) _ (m ∙ c .before .before .before .before .before .before .pre .1 .set ∙ sym (accesses-total fr (a .n) (a .t .now) (st .stands))) (c .before .before .closure .ensures .1 fr st),
+    )
+
+pub close-set-spec : {M : Type 1} → statement M
+close-set-spec =
+    tie.close
+    (tie.spec
+    mul-at
+    add-e
+    sub-closure
+    part-closure-start
+    part-closure-end
+    closure-requires
+    same-length
+    returns)

@@ -1,0 +1,1067 @@
+use Rattle.expressions.specs.Contract.{signCode}
+use Rattle.expressions.proofs.Words.{seen, n-bounds}
+use Rattle.expressions.proofs.ReaderWays.{g-bad, g-good, g-open, g-in, h-first, h-second, h-third, h-good, p-full, p-bad, p-good, p-none, p-table, p-word, p-lone, p-full-2, p-override, f-bad, f-in, f-join, m-first, m-end, m-in, m-bad, m-past, m-next, e-bad, e-in, e-join}
+use Rattle.expressions.proofs.Scopes.{byte-is, byte-isnt}
+use Rattle.grammar.proofs.Machine.{is-in}
+use borrow.Author.Needs.{needs}
+use native.Mathlib.Omega.{arith}
+use lib.Dec.{lit<}
+use lib.ListN.{length}
+use Rattle.expressions.specs.Entries.{lookupIn}
+use Rattle.expressions.specs.Contract.{ReadsMore}
+use Prim.Native.Nat.{ℕ, _<_, _+_, _-_, _*_}
+use borrow.Fn.Kinds.{In}
+use borrow.Fn.PlainCycle.{Measures, is, falls, and}
+use Rattle.expressions.proofs.expression.Reads as expression
+use Rattle.expressions.proofs.expression.Kinds as expression-kinds
+use Rattle.expressions.proofs.+expression+factor+more+overridden+part+primary.Lts-expression as expression-lts
+use Rattle.expressions.proofs.factor.Reads as factor
+use Rattle.expressions.proofs.factor.Kinds as factor-kinds
+use Rattle.expressions.proofs.+expression+factor+more+overridden+part+primary.Lts-factor as factor-lts
+use Rattle.expressions.proofs.more.Reads as more
+use Rattle.expressions.proofs.more.Kinds as more-kinds
+use Rattle.expressions.proofs.+expression+factor+more+overridden+part+primary.Lts-more as more-lts
+use Rattle.expressions.proofs.overridden.Reads as overridden
+use Rattle.expressions.proofs.overridden.Kinds as overridden-kinds
+use Rattle.expressions.proofs.+expression+factor+more+overridden+part+primary.Lts-overridden as overridden-lts
+use Rattle.expressions.proofs.part.Reads as part
+use Rattle.expressions.proofs.part.Kinds as part-kinds
+use Rattle.expressions.proofs.+expression+factor+more+overridden+part+primary.Lts-part as part-lts
+use Rattle.expressions.proofs.primary.Reads as primary
+use Rattle.expressions.proofs.primary.Kinds as primary-kinds
+use Rattle.expressions.proofs.+expression+factor+more+overridden+part+primary.Lts-primary as primary-lts
+use Rattle.expressions.proofs.peek.Reads as peek-reads
+use Rattle.expressions.proofs.put.Reads as put-reads
+use Rattle.expressions.proofs.put_name.Reads as put-name-reads
+use Rattle.expressions.proofs.sign.Reads as sign-reads
+use Rattle.expressions.proofs.suffixes.Reads as suffixes-reads
+use Rattle.expressions.proofs.word.Reads as word-reads
+use Rattle.expressions.proofs.word_sort.Reads as word-sort-reads
+use Rattle.expressions.proofs.+expression+factor+more+overridden+part+primary.{statement}
+use Rattle.expressions.proofs.+expression+factor+more+overridden+part+primary.Tie.{close}
+
+abbrev μ-expression : Measures 1 expression-kinds.ps ℕ
+μ-expression κs a = 6 * a .1 .1 .0 + 3
+
+abbrev μ-factor : Measures 1 factor-kinds.ps ℕ
+μ-factor κs a = 6 * a .1 .1 .0 + 1
+
+abbrev μ-more : Measures 1 more-kinds.ps ℕ
+μ-more κs a = 6 * a .1 .1 .0 + 2
+
+abbrev μ-overridden : Measures 1 overridden-kinds.ps ℕ
+μ-overridden κs a = 6 * a .1 .1 .0 + 5
+
+abbrev μ-part : Measures 1 part-kinds.ps ℕ
+μ-part κs a = 6 * a .1 .1 .0 + 4
+
+abbrev μ-primary : Measures 1 primary-kinds.ps ℕ
+μ-primary κs a = 6 * a .1 .1 .0 + 0
+
+abbrev expression-at : ℕ → In 1 expression-kinds.ps
+expression-at t =
+    and 1 expression-kinds.ps (is 1 expression-kinds.ps μ-expression t) expression.Pre
+
+abbrev expression-below : ℕ → In 1 expression-kinds.ps
+expression-below t =
+    and 1 expression-kinds.ps (falls 1 expression-kinds.ps _<_ μ-expression t) expression.Pre
+
+abbrev factor-at : ℕ → In 1 factor-kinds.ps
+factor-at t = and 1 factor-kinds.ps (is 1 factor-kinds.ps μ-factor t) factor.Pre
+
+abbrev factor-below : ℕ → In 1 factor-kinds.ps
+factor-below t = and 1 factor-kinds.ps (falls 1 factor-kinds.ps _<_ μ-factor t) factor.Pre
+
+abbrev more-at : ℕ → In 1 more-kinds.ps
+more-at t = and 1 more-kinds.ps (is 1 more-kinds.ps μ-more t) more.Pre
+
+abbrev more-below : ℕ → In 1 more-kinds.ps
+more-below t = and 1 more-kinds.ps (falls 1 more-kinds.ps _<_ μ-more t) more.Pre
+
+abbrev overridden-at : ℕ → In 1 overridden-kinds.ps
+overridden-at t =
+    and 1 overridden-kinds.ps (is 1 overridden-kinds.ps μ-overridden t) overridden.Pre
+
+abbrev overridden-below : ℕ → In 1 overridden-kinds.ps
+overridden-below t =
+    and 1 overridden-kinds.ps (falls 1 overridden-kinds.ps _<_ μ-overridden t) overridden.Pre
+
+abbrev part-at : ℕ → In 1 part-kinds.ps
+part-at t = and 1 part-kinds.ps (is 1 part-kinds.ps μ-part t) part.Pre
+
+abbrev part-below : ℕ → In 1 part-kinds.ps
+part-below t = and 1 part-kinds.ps (falls 1 part-kinds.ps _<_ μ-part t) part.Pre
+
+abbrev primary-at : ℕ → In 1 primary-kinds.ps
+primary-at t = and 1 primary-kinds.ps (is 1 primary-kinds.ps μ-primary t) primary.Pre
+
+abbrev primary-below : ℕ → In 1 primary-kinds.ps
+primary-below t = and 1 primary-kinds.ps (falls 1 primary-kinds.ps _<_ μ-primary t) primary.Pre
+
+expression-factor-requires : (t : ℕ) → expression-lts.Need-factor-requires (
+  factor-below t,
+  factor.Post,
+  more-below t,
+  more.Post,
+) (expression-at t) expression.Post
+expression-factor-requires t c κs = search needs
+
+expression-enum-known-k : (t : ℕ) → expression-lts.Need-enum-known-k (
+  factor-below t,
+  factor.Post,
+  more-below t,
+  more.Post,
+) (expression-at t) expression.Post
+expression-enum-known-k t c = search needs
+
+expression-enum-known-k-2 : (t : ℕ) → expression-lts.Need-enum-known-k-2 (
+  factor-below t,
+  factor.Post,
+  more-below t,
+  more.Post,
+) (expression-at t) expression.Post
+expression-enum-known-k-2 t c = search needs
+
+expression-more-requires : (t : ℕ) → expression-lts.Need-more-requires (
+  factor-below t,
+  factor.Post,
+  more-below t,
+  more.Post,
+) (expression-at t) expression.Post
+expression-more-requires t c κs = (search needs, (c .before .before .before .before .before .before .before .before .before .before .pre .1 .0, e-in _ _ _ _ _ _ (c .before .k2 .given .1) (c .before .before .before .before .factor .ensures)))
+
+expression-returns : (t : ℕ) → expression-lts.Need-returns (
+  factor-below t,
+  factor.Post,
+  more-below t,
+  more.Post,
+) (expression-at t) expression.Post
+expression-returns t c = e-bad _ _ _ _ _ _ _ (c .before .k .given .1) (c .before .before .before .before .factor .ensures)
+
+expression-returns-2 : (t : ℕ) → expression-lts.Need-returns-2 (
+  factor-below t,
+  factor.Post,
+  more-below t,
+  more.Post,
+) (expression-at t) expression.Post
+expression-returns-2 t c = e-join _ _ _ _ _ _ _ (c .before .before .k2 .given .1) (c .before .before .before .before .before .factor .ensures) _ (c .more .ensures)
+
+factor-primary-requires : (t : ℕ) → factor-lts.Need-primary-requires (
+  primary-below t,
+  primary.Post,
+  suffixes-reads.Asked,
+  suffixes-reads.Learnt,
+) (factor-at t) factor.Post
+factor-primary-requires t c κs = search needs
+
+factor-enum-known-k : (t : ℕ) → factor-lts.Need-enum-known-k (
+  primary-below t,
+  primary.Post,
+  suffixes-reads.Asked,
+  suffixes-reads.Learnt,
+) (factor-at t) factor.Post
+factor-enum-known-k t c = search needs
+
+factor-enum-known-k-2 : (t : ℕ) → factor-lts.Need-enum-known-k-2 (
+  primary-below t,
+  primary.Post,
+  suffixes-reads.Asked,
+  suffixes-reads.Learnt,
+) (factor-at t) factor.Post
+factor-enum-known-k-2 t c = search needs
+
+factor-suffixes-requires : (t : ℕ) → factor-lts.Need-suffixes-requires (
+  primary-below t,
+  primary.Post,
+  suffixes-reads.Asked,
+  suffixes-reads.Learnt,
+) (factor-at t) factor.Post
+factor-suffixes-requires t c κs = (c .before .before .before .before .before .before .before .before .before .before .pre .1 .0, f-in _ _ _ _ _ _ (c .before .k2 .given .1) (c .before .before .before .before .primary .ensures))
+
+factor-returns : (t : ℕ) → factor-lts.Need-returns (
+  primary-below t,
+  primary.Post,
+  suffixes-reads.Asked,
+  suffixes-reads.Learnt,
+) (factor-at t) factor.Post
+factor-returns t c = f-bad _ _ _ _ _ _ _ (c .before .k .given .1) (c .before .before .before .before .primary .ensures)
+
+factor-returns-2 : (t : ℕ) → factor-lts.Need-returns-2 (
+  primary-below t,
+  primary.Post,
+  suffixes-reads.Asked,
+  suffixes-reads.Learnt,
+) (factor-at t) factor.Post
+factor-returns-2 t c = f-join _ _ _ _ _ _ _ (c .before .before .k2 .given .1) (c .before .before .before .before .before .primary .ensures) _ (c .suffixes .ensures)
+
+abbrev more-Inv-loop : more-lts.InvT-loop
+more-Inv-loop t at allow f starts ends tags counts q₀ i₀ q i = ReadsMore (lookupIn f starts ends tags counts) t i₀ allow i q₀ q
+
+abbrev more-μ-loop : more-lts.MeasureT-loop
+more-μ-loop t at allow f starts ends tags counts q₀ i₀ q i = length t - i
+
+more-loop-holds : (t : ℕ) → more-lts.Need-loop-holds (
+  peek-reads.Asked,
+  peek-reads.Learnt,
+  sign-reads.Asked,
+  sign-reads.Learnt,
+  factor-below t,
+  factor.Post,
+  put-reads.Asked,
+  put-reads.Learnt,
+) (more-at t) more.Post more-Inv-loop more-μ-loop
+more-loop-holds t c = m-first _ _ _ _ _ (c .before .before .before .before .before .pre .1 .1)
+
+more-peek-requires : (t : ℕ) → more-lts.Need-peek-requires (
+  peek-reads.Asked,
+  peek-reads.Learnt,
+  sign-reads.Asked,
+  sign-reads.Learnt,
+  factor-below t,
+  factor.Post,
+  put-reads.Asked,
+  put-reads.Learnt,
+) (more-at t) more.Post more-Inv-loop more-μ-loop
+more-peek-requires t c κs = search needs
+
+more-sign-requires : (t : ℕ) → more-lts.Need-sign-requires (
+  peek-reads.Asked,
+  peek-reads.Learnt,
+  sign-reads.Asked,
+  sign-reads.Learnt,
+  factor-below t,
+  factor.Post,
+  put-reads.Asked,
+  put-reads.Learnt,
+) (more-at t) more.Post more-Inv-loop more-μ-loop
+more-sign-requires t c κs = search needs
+
+more-returns : (t : ℕ) → more-lts.Need-returns (
+  peek-reads.Asked,
+  peek-reads.Learnt,
+  sign-reads.Asked,
+  sign-reads.Learnt,
+  factor-below t,
+  factor.Post,
+  put-reads.Asked,
+  put-reads.Learnt,
+) (more-at t) more.Post more-Inv-loop more-μ-loop
+more-returns t c = m-end _ _ _ _ _ _ _ (c .before .before .before .loop .inv) (seen signCode (c .before .before .peek .ensures) (c .before .sign .ensures) (c .if1 .taken))
+
+more-add-factor : (t : ℕ) → more-lts.Need-add-factor (
+  peek-reads.Asked,
+  peek-reads.Learnt,
+  sign-reads.Asked,
+  sign-reads.Learnt,
+  factor-below t,
+  factor.Post,
+  put-reads.Asked,
+  put-reads.Learnt,
+) (more-at t) more.Post more-Inv-loop more-μ-loop
+more-add-factor t c = search needs
+
+more-factor-requires : (t : ℕ) → more-lts.Need-factor-requires (
+  peek-reads.Asked,
+  peek-reads.Learnt,
+  sign-reads.Asked,
+  sign-reads.Learnt,
+  factor-below t,
+  factor.Post,
+  put-reads.Asked,
+  put-reads.Learnt,
+) (more-at t) more.Post more-Inv-loop more-μ-loop
+more-factor-requires t c κs = (search needs, (c .before .before .before .before .before .before .before .before .before .pre .1 .0, (let i = m-in _ _ _ _ _ _ _ (c .before .before .before .loop .inv) (c .before .before .peek .ensures) (c .before .sign .ensures) (c .if1 .left) in omega arith)))
+
+more-enum-known-k : (t : ℕ) → more-lts.Need-enum-known-k (
+  peek-reads.Asked,
+  peek-reads.Learnt,
+  sign-reads.Asked,
+  sign-reads.Learnt,
+  factor-below t,
+  factor.Post,
+  put-reads.Asked,
+  put-reads.Learnt,
+) (more-at t) more.Post more-Inv-loop more-μ-loop
+more-enum-known-k t c = search needs
+
+more-returns-2 : (t : ℕ) → more-lts.Need-returns-2 (
+  peek-reads.Asked,
+  peek-reads.Learnt,
+  sign-reads.Asked,
+  sign-reads.Learnt,
+  factor-below t,
+  factor.Post,
+  put-reads.Asked,
+  put-reads.Learnt,
+) (more-at t) more.Post more-Inv-loop more-μ-loop
+more-returns-2 t c = m-bad _ _ _ _ _ _ _ (c .before .before .before .before .before .before .before .before .loop .inv) (c .before .before .before .before .before .before .before .peek .ensures) (c .before .before .before .before .before .before .sign .ensures) (c .before .before .before .before .before .if1 .left) _ _ (c .before .k .given .1) (c .before .before .before .before .factor .ensures)
+
+more-enum-known-k-2 : (t : ℕ) → more-lts.Need-enum-known-k-2 (
+  peek-reads.Asked,
+  peek-reads.Learnt,
+  sign-reads.Asked,
+  sign-reads.Learnt,
+  factor-below t,
+  factor.Post,
+  put-reads.Asked,
+  put-reads.Learnt,
+) (more-at t) more.Post more-Inv-loop more-μ-loop
+more-enum-known-k-2 t c = search needs
+
+more-put-requires : (t : ℕ) → more-lts.Need-put-requires (
+  peek-reads.Asked,
+  peek-reads.Learnt,
+  sign-reads.Asked,
+  sign-reads.Learnt,
+  factor-below t,
+  factor.Post,
+  put-reads.Asked,
+  put-reads.Learnt,
+) (more-at t) more.Post more-Inv-loop more-μ-loop
+more-put-requires t c κs = search needs
+
+more-loop-less : (t : ℕ) → more-lts.Need-loop-less (
+  peek-reads.Asked,
+  peek-reads.Learnt,
+  sign-reads.Asked,
+  sign-reads.Learnt,
+  factor-below t,
+  factor.Post,
+  put-reads.Asked,
+  put-reads.Learnt,
+) (more-at t) more.Post more-Inv-loop more-μ-loop
+more-loop-less t c = let g = m-past _ _ _ _ _ _ _ (c .before .before .before .before .before .before .before .before .before .loop .inv) (c .before .before .before .before .before .before .before .before .peek .ensures) (c .before .before .before .before .before .before .before .sign .ensures) (c .before .before .before .before .before .before .if1 .left) _ (c .before .before .k2 .given .1) (c .before .before .before .before .before .factor .ensures) in omega arith
+
+more-loop-again : (t : ℕ) → more-lts.Need-loop-again (
+  peek-reads.Asked,
+  peek-reads.Learnt,
+  sign-reads.Asked,
+  sign-reads.Learnt,
+  factor-below t,
+  factor.Post,
+  put-reads.Asked,
+  put-reads.Learnt,
+) (more-at t) more.Post more-Inv-loop more-μ-loop
+more-loop-again t c = m-next _ _ _ _ _ _ _ (c .before .before .before .before .before .before .before .before .before .loop .inv) (c .before .before .before .before .before .before .before .before .peek .ensures) (c .before .before .before .before .before .before .before .sign .ensures) (c .before .before .before .before .before .before .if1 .left) _ _ (c .before .before .k2 .given .1) (c .before .before .before .before .before .factor .ensures) (c .put .ensures)
+
+overridden-part-requires : (t : ℕ) → overridden-lts.Need-part-requires (
+  part-below t,
+  part.Post,
+  put-reads.Asked,
+  put-reads.Learnt,
+) (overridden-at t) overridden.Post
+overridden-part-requires t c κs = search needs
+
+overridden-enum-known-k : (t : ℕ) → overridden-lts.Need-enum-known-k (
+  part-below t,
+  part.Post,
+  put-reads.Asked,
+  put-reads.Learnt,
+) (overridden-at t) overridden.Post
+overridden-enum-known-k t c = search needs
+
+overridden-enum-known-k-2 : (t : ℕ) → overridden-lts.Need-enum-known-k-2 (
+  part-below t,
+  part.Post,
+  put-reads.Asked,
+  put-reads.Learnt,
+) (overridden-at t) overridden.Post
+overridden-enum-known-k-2 t c = search needs
+
+overridden-add-part : (t : ℕ) → overridden-lts.Need-add-part (
+  part-below t,
+  part.Post,
+  put-reads.Asked,
+  put-reads.Learnt,
+) (overridden-at t) overridden.Post
+overridden-add-part t c = let g = g-in _ _ _ _ _ _ (c .before .k2 .given .1) (c .before .before .before .before .part .ensures) (lit< tt) in omega arith
+
+overridden-part-requires-2 : (t : ℕ) → overridden-lts.Need-part-requires-2 (
+  part-below t,
+  part.Post,
+  put-reads.Asked,
+  put-reads.Learnt,
+) (overridden-at t) overridden.Post
+overridden-part-requires-2 t c κs = (search needs, (c .before .before .before .before .before .before .before .before .before .before .pre .1 .0, (let g = g-in _ _ _ _ _ _ (c .before .k2 .given .1) (c .before .before .before .before .part .ensures) (lit< tt) in omega arith)))
+
+overridden-enum-known-k2 : (t : ℕ) → overridden-lts.Need-enum-known-k2 (
+  part-below t,
+  part.Post,
+  put-reads.Asked,
+  put-reads.Learnt,
+) (overridden-at t) overridden.Post
+overridden-enum-known-k2 t c = search needs
+
+overridden-enum-known-k2-2 : (t : ℕ) → overridden-lts.Need-enum-known-k2-2 (
+  part-below t,
+  part.Post,
+  put-reads.Asked,
+  put-reads.Learnt,
+) (overridden-at t) overridden.Post
+overridden-enum-known-k2-2 t c = search needs
+
+overridden-add-part-2 : (t : ℕ) → overridden-lts.Need-add-part-2 (
+  part-below t,
+  part.Post,
+  put-reads.Asked,
+  put-reads.Learnt,
+) (overridden-at t) overridden.Post
+overridden-add-part-2 t c = let g = g-in _ _ _ _ _ _ (c .before .k23 .given .1) (c .before .before .before .before .part2 .ensures) (lit< tt) in omega (arith, c .before .before .before .before .before .before .before .before .before .before .before .before .before .before .before .good .0)
+
+overridden-part-requires-3 : (t : ℕ) → overridden-lts.Need-part-requires-3 (
+  part-below t,
+  part.Post,
+  put-reads.Asked,
+  put-reads.Learnt,
+) (overridden-at t) overridden.Post
+overridden-part-requires-3 t c κs = (search needs, (c .before .before .before .before .before .before .before .before .before .before .before .before .before .before .before .pre .1 .0, (let g = g-in _ _ _ _ _ _ (c .before .k23 .given .1) (c .before .before .before .before .part2 .ensures) (lit< tt) in omega arith)))
+
+overridden-enum-known-k3 : (t : ℕ) → overridden-lts.Need-enum-known-k3 (
+  part-below t,
+  part.Post,
+  put-reads.Asked,
+  put-reads.Learnt,
+) (overridden-at t) overridden.Post
+overridden-enum-known-k3 t c = search needs
+
+overridden-enum-known-k3-2 : (t : ℕ) → overridden-lts.Need-enum-known-k3-2 (
+  part-below t,
+  part.Post,
+  put-reads.Asked,
+  put-reads.Learnt,
+) (overridden-at t) overridden.Post
+overridden-enum-known-k3-2 t c = search needs
+
+overridden-put-requires : (t : ℕ) → overridden-lts.Need-put-requires (
+  part-below t,
+  part.Post,
+  put-reads.Asked,
+  put-reads.Learnt,
+) (overridden-at t) overridden.Post
+overridden-put-requires t c κs = search needs
+
+overridden-add-t35 : (t : ℕ) → overridden-lts.Need-add-t35 (
+  part-below t,
+  part.Post,
+  put-reads.Asked,
+  put-reads.Learnt,
+) (overridden-at t) overridden.Post
+overridden-add-t35 t c = let g = g-in _ _ _ _ _ _ (c .before .before .k32 .given .1) (c .before .before .before .before .before .part3 .ensures) (lit< tt) in omega (arith, c .before .before .before .before .before .before .before .before .before .before .before .before .before .before .before .before .before .before .before .before .before .good .0)
+
+overridden-returns : (t : ℕ) → overridden-lts.Need-returns (
+  part-below t,
+  part.Post,
+  put-reads.Asked,
+  put-reads.Learnt,
+) (overridden-at t) overridden.Post
+overridden-returns t c = h-first _ _ _ _ _ _ _ (c .before .k .given .1) (c .before .before .before .before .part .ensures)
+
+overridden-returns-2 : (t : ℕ) → overridden-lts.Need-returns-2 (
+  part-below t,
+  part.Post,
+  put-reads.Asked,
+  put-reads.Learnt,
+) (overridden-at t) overridden.Post
+overridden-returns-2 t c = h-second _ _ _ _ _ _ _ (c .before .before .before .before .before .before .k2 .given .1) (c .before .before .before .before .before .before .before .before .before .part .ensures) _ (c .before .k22 .given .1) (c .before .before .before .before .part2 .ensures)
+
+overridden-returns-3 : (t : ℕ) → overridden-lts.Need-returns-3 (
+  part-below t,
+  part.Post,
+  put-reads.Asked,
+  put-reads.Learnt,
+) (overridden-at t) overridden.Post
+overridden-returns-3 t c = h-third _ _ _ _ _ _ _ (c .before .before .before .before .before .before .before .before .before .before .before .k2 .given .1) (c .before .before .before .before .before .before .before .before .before .before .before .before .before .before .part .ensures) _ (c .before .before .before .before .before .before .k23 .given .1) (c .before .before .before .before .before .before .before .before .before .part2 .ensures) _ (c .before .k3 .given .1) (c .before .before .before .before .part3 .ensures)
+
+overridden-returns-4 : (t : ℕ) → overridden-lts.Need-returns-4 (
+  part-below t,
+  part.Post,
+  put-reads.Asked,
+  put-reads.Learnt,
+) (overridden-at t) overridden.Post
+overridden-returns-4 t c = h-good _ _ _ _ _ _ _ (c .before .before .before .before .before .before .before .before .before .before .before .before .k2 .given .1) (c .before .before .before .before .before .before .before .before .before .before .before .before .before .before .before .part .ensures) _ (c .before .before .before .before .before .before .before .k23 .given .1) (c .before .before .before .before .before .before .before .before .before .before .part2 .ensures) _ (c .before .before .k32 .given .1) (c .before .before .before .before .before .part3 .ensures) (c .put .ensures)
+
+part-expression-requires : (t : ℕ) → part-lts.Need-expression-requires (
+  expression-below t,
+  expression.Post,
+  peek-reads.Asked,
+  peek-reads.Learnt,
+) (part-at t) part.Post
+part-expression-requires t c κs = search needs
+
+part-enum-known-k : (t : ℕ) → part-lts.Need-enum-known-k (
+  expression-below t,
+  expression.Post,
+  peek-reads.Asked,
+  peek-reads.Learnt,
+) (part-at t) part.Post
+part-enum-known-k t c = search needs
+
+part-enum-known-k-2 : (t : ℕ) → part-lts.Need-enum-known-k-2 (
+  expression-below t,
+  expression.Post,
+  peek-reads.Asked,
+  peek-reads.Learnt,
+) (part-at t) part.Post
+part-enum-known-k-2 t c = search needs
+
+part-peek-requires : (t : ℕ) → part-lts.Need-peek-requires (
+  expression-below t,
+  expression.Post,
+  peek-reads.Asked,
+  peek-reads.Learnt,
+) (part-at t) part.Post
+part-peek-requires t c κs = search needs
+
+part-returns : (t : ℕ) → part-lts.Need-returns (
+  expression-below t,
+  expression.Post,
+  peek-reads.Asked,
+  peek-reads.Learnt,
+) (part-at t) part.Post
+part-returns t c = g-open _ _ _ _ _ _ _ (c .before .before .before .k2 .given .1) (c .before .before .before .before .before .before .expression .ensures) (byte-isnt (c .before .peek .ensures) (c .if1 .taken))
+
+part-returns-2 : (t : ℕ) → part-lts.Need-returns-2 (
+  expression-below t,
+  expression.Post,
+  peek-reads.Asked,
+  peek-reads.Learnt,
+) (part-at t) part.Post
+part-returns-2 t c = g-bad _ _ _ _ _ _ _ _ (c .before .k .given .1) (c .before .before .before .before .expression .ensures)
+
+part-returns-3 : (t : ℕ) → part-lts.Need-returns-3 (
+  expression-below t,
+  expression.Post,
+  peek-reads.Asked,
+  peek-reads.Learnt,
+) (part-at t) part.Post
+part-returns-3 t c = g-good _ _ _ _ _ _ (c .before .before .before .k2 .given .1) (c .before .before .before .before .before .before .expression .ensures) (byte-is (c .before .peek .ensures) (c .if1 .left))
+
+primary-peek-requires : (t : ℕ) → primary-lts.Need-peek-requires (
+  peek-reads.Asked,
+  peek-reads.Learnt,
+  part-below t,
+  part.Post,
+  word-reads.Asked,
+  word-reads.Learnt,
+  word-sort-reads.Asked,
+  word-sort-reads.Learnt,
+  put-name-reads.Asked,
+  put-name-reads.Learnt,
+  overridden-below t,
+  overridden.Post,
+) (primary-at t) primary.Post
+primary-peek-requires t c κs = search needs
+
+primary-returns : (t : ℕ) → primary-lts.Need-returns (
+  peek-reads.Asked,
+  peek-reads.Learnt,
+  part-below t,
+  part.Post,
+  word-reads.Asked,
+  word-reads.Learnt,
+  word-sort-reads.Asked,
+  word-sort-reads.Learnt,
+  put-name-reads.Asked,
+  put-name-reads.Learnt,
+  overridden-below t,
+  overridden.Post,
+) (primary-at t) primary.Post
+primary-returns t c = p-full _ _ _ _ _ _ (byte-is (c .before .before .peek .ensures) (c .before .if1 .taken)) (c .if2 .taken)
+
+primary-add-part : (t : ℕ) → primary-lts.Need-add-part (
+  peek-reads.Asked,
+  peek-reads.Learnt,
+  part-below t,
+  part.Post,
+  word-reads.Asked,
+  word-reads.Learnt,
+  word-sort-reads.Asked,
+  word-sort-reads.Learnt,
+  put-name-reads.Asked,
+  put-name-reads.Learnt,
+  overridden-below t,
+  overridden.Post,
+) (primary-at t) primary.Post
+primary-add-part t c = search needs
+
+primary-sub-part : (t : ℕ) → primary-lts.Need-sub-part (
+  peek-reads.Asked,
+  peek-reads.Learnt,
+  part-below t,
+  part.Post,
+  word-reads.Asked,
+  word-reads.Learnt,
+  word-sort-reads.Asked,
+  word-sort-reads.Learnt,
+  put-name-reads.Asked,
+  put-name-reads.Learnt,
+  overridden-below t,
+  overridden.Post,
+) (primary-at t) primary.Post
+primary-sub-part t c = search needs
+
+primary-part-requires : (t : ℕ) → primary-lts.Need-part-requires (
+  peek-reads.Asked,
+  peek-reads.Learnt,
+  part-below t,
+  part.Post,
+  word-reads.Asked,
+  word-reads.Learnt,
+  word-sort-reads.Asked,
+  word-sort-reads.Learnt,
+  put-name-reads.Asked,
+  put-name-reads.Learnt,
+  overridden-below t,
+  overridden.Post,
+) (primary-at t) primary.Post
+primary-part-requires t c κs = (search needs, (c .before .before .before .before .before .before .before .before .pre .1 .0, omega (arith, is-in 40 (c .before .before .before .before .before .before .before .before .args .t .now) (c .before .before .before .before .before .before .before .before .args .at) (byte-is (c .before .before .peek .ensures) (c .before .if1 .taken)) (lit< tt))))
+
+primary-enum-known-k : (t : ℕ) → primary-lts.Need-enum-known-k (
+  peek-reads.Asked,
+  peek-reads.Learnt,
+  part-below t,
+  part.Post,
+  word-reads.Asked,
+  word-reads.Learnt,
+  word-sort-reads.Asked,
+  word-sort-reads.Learnt,
+  put-name-reads.Asked,
+  put-name-reads.Learnt,
+  overridden-below t,
+  overridden.Post,
+) (primary-at t) primary.Post
+primary-enum-known-k t c = search needs
+
+primary-returns-2 : (t : ℕ) → primary-lts.Need-returns-2 (
+  peek-reads.Asked,
+  peek-reads.Learnt,
+  part-below t,
+  part.Post,
+  word-reads.Asked,
+  word-reads.Learnt,
+  word-sort-reads.Asked,
+  word-sort-reads.Learnt,
+  put-name-reads.Asked,
+  put-name-reads.Learnt,
+  overridden-below t,
+  overridden.Post,
+) (primary-at t) primary.Post
+primary-returns-2 t c = p-bad _ _ _ _ _ _ (byte-is (c .before .before .before .before .before .before .before .peek .ensures) (c .before .before .before .before .before .before .if1 .taken)) (c .before .before .before .before .before .if2 .left) _ (c .before .k .given .1) (c .before .before .before .before .part .ensures)
+
+primary-enum-known-k-2 : (t : ℕ) → primary-lts.Need-enum-known-k-2 (
+  peek-reads.Asked,
+  peek-reads.Learnt,
+  part-below t,
+  part.Post,
+  word-reads.Asked,
+  word-reads.Learnt,
+  word-sort-reads.Asked,
+  word-sort-reads.Learnt,
+  put-name-reads.Asked,
+  put-name-reads.Learnt,
+  overridden-below t,
+  overridden.Post,
+) (primary-at t) primary.Post
+primary-enum-known-k-2 t c = search needs
+
+primary-add-t27 : (t : ℕ) → primary-lts.Need-add-t27 (
+  peek-reads.Asked,
+  peek-reads.Learnt,
+  part-below t,
+  part.Post,
+  word-reads.Asked,
+  word-reads.Learnt,
+  word-sort-reads.Asked,
+  word-sort-reads.Learnt,
+  put-name-reads.Asked,
+  put-name-reads.Learnt,
+  overridden-below t,
+  overridden.Post,
+) (primary-at t) primary.Post
+primary-add-t27 t c = let g = g-in _ _ _ _ _ _ (c .before .k2 .given .1) (c .before .before .before .before .part .ensures) (lit< tt) in omega arith
+
+primary-returns-3 : (t : ℕ) → primary-lts.Need-returns-3 (
+  peek-reads.Asked,
+  peek-reads.Learnt,
+  part-below t,
+  part.Post,
+  word-reads.Asked,
+  word-reads.Learnt,
+  word-sort-reads.Asked,
+  word-sort-reads.Learnt,
+  put-name-reads.Asked,
+  put-name-reads.Learnt,
+  overridden-below t,
+  overridden.Post,
+) (primary-at t) primary.Post
+primary-returns-3 t c = p-good _ _ _ _ _ _ (byte-is (c .before .before .before .before .before .before .before .peek .ensures) (c .before .before .before .before .before .before .if1 .taken)) (c .before .before .before .before .before .if2 .left) (c .before .k2 .given .1) (c .before .before .before .before .part .ensures)
+
+primary-word-requires : (t : ℕ) → primary-lts.Need-word-requires (
+  peek-reads.Asked,
+  peek-reads.Learnt,
+  part-below t,
+  part.Post,
+  word-reads.Asked,
+  word-reads.Learnt,
+  word-sort-reads.Asked,
+  word-sort-reads.Learnt,
+  put-name-reads.Asked,
+  put-name-reads.Learnt,
+  overridden-below t,
+  overridden.Post,
+) (primary-at t) primary.Post
+primary-word-requires t c κs = search needs
+
+primary-enum-known-e : (t : ℕ) → primary-lts.Need-enum-known-e (
+  peek-reads.Asked,
+  peek-reads.Learnt,
+  part-below t,
+  part.Post,
+  word-reads.Asked,
+  word-reads.Learnt,
+  word-sort-reads.Asked,
+  word-sort-reads.Learnt,
+  put-name-reads.Asked,
+  put-name-reads.Learnt,
+  overridden-below t,
+  overridden.Post,
+) (primary-at t) primary.Post
+primary-enum-known-e t c = search needs
+
+primary-enum-known-e-2 : (t : ℕ) → primary-lts.Need-enum-known-e-2 (
+  peek-reads.Asked,
+  peek-reads.Learnt,
+  part-below t,
+  part.Post,
+  word-reads.Asked,
+  word-reads.Learnt,
+  word-sort-reads.Asked,
+  word-sort-reads.Learnt,
+  put-name-reads.Asked,
+  put-name-reads.Learnt,
+  overridden-below t,
+  overridden.Post,
+) (primary-at t) primary.Post
+primary-enum-known-e-2 t c = search needs
+
+primary-word-sort-requires : (t : ℕ) → primary-lts.Need-word-sort-requires (
+  peek-reads.Asked,
+  peek-reads.Learnt,
+  part-below t,
+  part.Post,
+  word-reads.Asked,
+  word-reads.Learnt,
+  word-sort-reads.Asked,
+  word-sort-reads.Learnt,
+  put-name-reads.Asked,
+  put-name-reads.Learnt,
+  overridden-below t,
+  overridden.Post,
+) (primary-at t) primary.Post
+primary-word-sort-requires t c κs = n-bounds _ _ (c .before .e2 .given .1) (c .before .before .before .word .ensures)
+
+primary-put-name-requires : (t : ℕ) → primary-lts.Need-put-name-requires (
+  peek-reads.Asked,
+  peek-reads.Learnt,
+  part-below t,
+  part.Post,
+  word-reads.Asked,
+  word-reads.Learnt,
+  word-sort-reads.Asked,
+  word-sort-reads.Learnt,
+  put-name-reads.Asked,
+  put-name-reads.Learnt,
+  overridden-below t,
+  overridden.Post,
+) (primary-at t) primary.Post
+primary-put-name-requires t c κs = (c .before .before .before .before .before .before .before .before .before .before .before .before .before .pre .1 .0, (let g = n-bounds _ _ (c .before .before .before .e2 .given .1) (c .before .before .before .before .before .word .ensures) in omega arith), n-bounds _ _ (c .before .before .before .e2 .given .1) (c .before .before .before .before .before .word .ensures) .1)
+
+primary-returns-4 : (t : ℕ) → primary-lts.Need-returns-4 (
+  peek-reads.Asked,
+  peek-reads.Learnt,
+  part-below t,
+  part.Post,
+  word-reads.Asked,
+  word-reads.Learnt,
+  word-sort-reads.Asked,
+  word-sort-reads.Learnt,
+  put-name-reads.Asked,
+  put-name-reads.Learnt,
+  overridden-below t,
+  overridden.Post,
+) (primary-at t) primary.Post
+primary-returns-4 t c = p-table _ _ _ _ _ _ (c .before .before .before .before .before .before .before .before .before .before .before .before .before .before .pre .1 .1) (byte-isnt (c .before .before .before .before .before .before .before .before .peek .ensures) (c .before .before .before .before .before .before .before .if1 .left)) (c .before .before .before .before .e2 .given .1) (c .before .before .before .before .before .before .word .ensures) (c .before .before .word-sort .ensures) (c .before .if3 .taken) (c .put-name .ensures)
+
+primary-returns-5 : (t : ℕ) → primary-lts.Need-returns-5 (
+  peek-reads.Asked,
+  peek-reads.Learnt,
+  part-below t,
+  part.Post,
+  word-reads.Asked,
+  word-reads.Learnt,
+  word-sort-reads.Asked,
+  word-sort-reads.Learnt,
+  put-name-reads.Asked,
+  put-name-reads.Learnt,
+  overridden-below t,
+  overridden.Post,
+) (primary-at t) primary.Post
+primary-returns-5 t c = p-word _ _ _ _ _ _ (c .before .before .before .before .before .before .before .before .before .before .before .before .before .before .pre .1 .1) (byte-isnt (c .before .before .before .before .before .before .before .before .peek .ensures) (c .before .before .before .before .before .before .before .if1 .left)) (c .before .before .before .before .e2 .given .1) (c .before .before .before .before .before .before .word .ensures) (c .before .before .word-sort .ensures) (c .before .if3 .left) (c .if4 .taken)
+
+primary-peek-requires-2 : (t : ℕ) → primary-lts.Need-peek-requires-2 (
+  peek-reads.Asked,
+  peek-reads.Learnt,
+  part-below t,
+  part.Post,
+  word-reads.Asked,
+  word-reads.Learnt,
+  word-sort-reads.Asked,
+  word-sort-reads.Learnt,
+  put-name-reads.Asked,
+  put-name-reads.Learnt,
+  overridden-below t,
+  overridden.Post,
+) (primary-at t) primary.Post
+primary-peek-requires-2 t c κs = search needs
+
+primary-returns-6 : (t : ℕ) → primary-lts.Need-returns-6 (
+  peek-reads.Asked,
+  peek-reads.Learnt,
+  part-below t,
+  part.Post,
+  word-reads.Asked,
+  word-reads.Learnt,
+  word-sort-reads.Asked,
+  word-sort-reads.Learnt,
+  put-name-reads.Asked,
+  put-name-reads.Learnt,
+  overridden-below t,
+  overridden.Post,
+) (primary-at t) primary.Post
+primary-returns-6 t c = p-lone _ _ _ _ _ _ (c .before .before .before .before .before .before .before .before .before .before .before .before .before .before .before .before .pre .1 .1) (byte-isnt (c .before .before .before .before .before .before .before .before .before .before .peek .ensures) (c .before .before .before .before .before .before .before .before .before .if1 .left)) (c .before .before .before .before .before .before .e2 .given .1) (c .before .before .before .before .before .before .before .before .word .ensures) (c .before .before .before .before .word-sort .ensures) (c .before .before .if4 .left) (byte-isnt (c .before .peek2 .ensures) (c .if5 .taken))
+
+primary-returns-7 : (t : ℕ) → primary-lts.Need-returns-7 (
+  peek-reads.Asked,
+  peek-reads.Learnt,
+  part-below t,
+  part.Post,
+  word-reads.Asked,
+  word-reads.Learnt,
+  word-sort-reads.Asked,
+  word-sort-reads.Learnt,
+  put-name-reads.Asked,
+  put-name-reads.Learnt,
+  overridden-below t,
+  overridden.Post,
+) (primary-at t) primary.Post
+primary-returns-7 t c = p-full-2 _ _ _ _ _ _ (c .before .before .before .before .before .before .before .before .before .before .before .before .before .before .before .before .before .pre .1 .1) (byte-isnt (c .before .before .before .before .before .before .before .before .before .before .before .peek .ensures) (c .before .before .before .before .before .before .before .before .before .before .if1 .left)) (c .before .before .before .before .before .before .before .e2 .given .1) (c .before .before .before .before .before .before .before .before .before .word .ensures) (c .before .before .before .before .before .word-sort .ensures) (c .before .before .before .if4 .left) (byte-is (c .before .before .peek2 .ensures) (c .before .if5 .left)) (c .if6 .taken)
+
+primary-add-overridden : (t : ℕ) → primary-lts.Need-add-overridden (
+  peek-reads.Asked,
+  peek-reads.Learnt,
+  part-below t,
+  part.Post,
+  word-reads.Asked,
+  word-reads.Learnt,
+  word-sort-reads.Asked,
+  word-sort-reads.Learnt,
+  put-name-reads.Asked,
+  put-name-reads.Learnt,
+  overridden-below t,
+  overridden.Post,
+) (primary-at t) primary.Post
+primary-add-overridden t c = let g = n-bounds _ _ (c .before .before .before .before .before .before .before .e2 .given .1) (c .before .before .before .before .before .before .before .before .before .word .ensures) in omega arith
+
+primary-sub-overridden : (t : ℕ) → primary-lts.Need-sub-overridden (
+  peek-reads.Asked,
+  peek-reads.Learnt,
+  part-below t,
+  part.Post,
+  word-reads.Asked,
+  word-reads.Learnt,
+  word-sort-reads.Asked,
+  word-sort-reads.Learnt,
+  put-name-reads.Asked,
+  put-name-reads.Learnt,
+  overridden-below t,
+  overridden.Post,
+) (primary-at t) primary.Post
+primary-sub-overridden t c = search needs
+
+primary-overridden-requires : (t : ℕ) → primary-lts.Need-overridden-requires (
+  peek-reads.Asked,
+  peek-reads.Learnt,
+  part-below t,
+  part.Post,
+  word-reads.Asked,
+  word-reads.Learnt,
+  word-sort-reads.Asked,
+  word-sort-reads.Learnt,
+  put-name-reads.Asked,
+  put-name-reads.Learnt,
+  overridden-below t,
+  overridden.Post,
+) (primary-at t) primary.Post
+primary-overridden-requires t c κs = (search needs, (c .before .before .before .before .before .before .before .before .before .before .before .before .before .before .before .before .before .pre .1 .0, omega (arith, is-in 40 (c .before .before .before .before .before .before .before .before .before .before .before .before .before .before .before .before .before .args .t .now) (c .before .before .before .before .before .before .before .e2 .given .0 .0) (byte-is (c .before .before .peek2 .ensures) (c .before .if5 .left)) (lit< tt))))
+
+primary-returns-8 : (t : ℕ) → primary-lts.Need-returns-8 (
+  peek-reads.Asked,
+  peek-reads.Learnt,
+  part-below t,
+  part.Post,
+  word-reads.Asked,
+  word-reads.Learnt,
+  word-sort-reads.Asked,
+  word-sort-reads.Learnt,
+  put-name-reads.Asked,
+  put-name-reads.Learnt,
+  overridden-below t,
+  overridden.Post,
+) (primary-at t) primary.Post
+primary-returns-8 t c = p-none _ _ _ _ _ _ (c .before .before .before .before .before .before .before .before .before .before .before .pre .1 .1) (byte-isnt (c .before .before .before .before .before .peek .ensures) (c .before .before .before .before .if1 .left)) (c .before .e .given .1) (c .before .before .before .word .ensures)
+
+primary-returns-9 : (t : ℕ) → primary-lts.Need-returns-9 (
+  peek-reads.Asked,
+  peek-reads.Learnt,
+  part-below t,
+  part.Post,
+  word-reads.Asked,
+  word-reads.Learnt,
+  word-sort-reads.Asked,
+  word-sort-reads.Learnt,
+  put-name-reads.Asked,
+  put-name-reads.Learnt,
+  overridden-below t,
+  overridden.Post,
+) (primary-at t) primary.Post
+primary-returns-9 t c = p-override _ _ _ _ _ _ (c .before .before .before .before .before .before .before .before .before .before .before .before .before .before .before .before .before .before .pre .1 .1) (byte-isnt (c .before .before .before .before .before .before .before .before .before .before .before .before .peek .ensures) (c .before .before .before .before .before .before .before .before .before .before .before .if1 .left)) (c .before .before .before .before .before .before .before .before .e2 .given .1) (c .before .before .before .before .before .before .before .before .before .before .word .ensures) (c .before .before .before .before .before .before .word-sort .ensures) (c .before .before .before .before .if4 .left) (byte-is (c .before .before .before .peek2 .ensures) (c .before .before .if5 .left)) (c .before .if6 .left) _ (c .overridden .ensures)
+
+pub +expression+factor+more+overridden+part+primary-spec : {M : Type 1} → statement M
++expression+factor+more+overridden+part+primary-spec =
+    close μ-expression μ-factor μ-more μ-overridden μ-part μ-primary (λ t. expression-lts.spec (
+      factor-below t,
+      factor.Post,
+      more-below t,
+      more.Post,
+    )
+    (expression-at t)
+    expression.Post
+    (expression-factor-requires t)
+    (expression-enum-known-k t)
+    (expression-enum-known-k-2 t)
+    (expression-more-requires t)
+    (expression-returns t)
+    (expression-returns-2 t))
+    (λ t. factor-lts.spec (
+      primary-below t,
+      primary.Post,
+      suffixes-reads.Asked,
+      suffixes-reads.Learnt,
+    )
+    (factor-at t)
+    factor.Post
+    (factor-primary-requires t)
+    (factor-enum-known-k t)
+    (factor-enum-known-k-2 t)
+    (factor-suffixes-requires t)
+    (factor-returns t)
+    (factor-returns-2 t))
+    (λ t. more-lts.spec (
+      peek-reads.Asked,
+      peek-reads.Learnt,
+      sign-reads.Asked,
+      sign-reads.Learnt,
+      factor-below t,
+      factor.Post,
+      put-reads.Asked,
+      put-reads.Learnt,
+    )
+    (more-at t)
+    more.Post
+    more-Inv-loop
+    more-μ-loop
+    (more-loop-holds t)
+    (more-peek-requires t)
+    (more-sign-requires t)
+    (more-returns t)
+    (more-add-factor t)
+    (more-factor-requires t)
+    (more-enum-known-k t)
+    (more-returns-2 t)
+    (more-enum-known-k-2 t)
+    (more-put-requires t)
+    (more-loop-less t)
+    (more-loop-again t))
+    (λ t. overridden-lts.spec
+    (part-below t, part.Post, put-reads.Asked, put-reads.Learnt)
+    (overridden-at t)
+    overridden.Post
+    (overridden-part-requires t)
+    (overridden-enum-known-k t)
+    (overridden-enum-known-k-2 t)
+    (overridden-add-part t)
+    (overridden-part-requires-2 t)
+    (overridden-enum-known-k2 t)
+    (overridden-enum-known-k2-2 t)
+    (overridden-add-part-2 t)
+    (overridden-part-requires-3 t)
+    (overridden-enum-known-k3 t)
+    (overridden-enum-known-k3-2 t)
+    (overridden-put-requires t)
+    (overridden-add-t35 t)
+    (overridden-returns t)
+    (overridden-returns-2 t)
+    (overridden-returns-3 t)
+    (overridden-returns-4 t))
+    (λ t. part-lts.spec
+    (expression-below t, expression.Post, peek-reads.Asked, peek-reads.Learnt)
+    (part-at t)
+    part.Post
+    (part-expression-requires t)
+    (part-enum-known-k t)
+    (part-enum-known-k-2 t)
+    (part-peek-requires t)
+    (part-returns t)
+    (part-returns-2 t)
+    (part-returns-3 t))
+    λ t. primary-lts.spec (
+      peek-reads.Asked,
+      peek-reads.Learnt,
+      part-below t,
+      part.Post,
+      word-reads.Asked,
+      word-reads.Learnt,
+      word-sort-reads.Asked,
+      word-sort-reads.Learnt,
+      put-name-reads.Asked,
+      put-name-reads.Learnt,
+      overridden-below t,
+      overridden.Post,
+    )
+    (primary-at t)
+    primary.Post
+    (primary-peek-requires t)
+    (primary-returns t)
+    (primary-add-part t)
+    (primary-sub-part t)
+    (primary-part-requires t)
+    (primary-enum-known-k t)
+    (primary-returns-2 t)
+    (primary-enum-known-k-2 t)
+    (primary-add-t27 t)
+    (primary-returns-3 t)
+    (primary-word-requires t)
+    (primary-enum-known-e t)
+    (primary-enum-known-e-2 t)
+    (primary-word-sort-requires t)
+    (primary-put-name-requires t)
+    (primary-returns-4 t)
+    (primary-returns-5 t)
+    (primary-peek-requires-2 t)
+    (primary-returns-6 t)
+    (primary-returns-7 t)
+    (primary-add-overridden t)
+    (primary-sub-overridden t)
+    (primary-overridden-requires t)
+    (primary-returns-8 t)
+    (primary-returns-9 t)

@@ -1,0 +1,28 @@
+use Rattle.expressions.proofs.Whole.{r-bad, r-rest, r-whole}
+use mathlib.Core.Path.{refl}
+use borrow.Author.Needs.{needs}
+use Rattle.expressions.proofs.read.Statement.{statement}
+use Rattle.expressions.proofs.read.Tie as tie
+
+expression-requires : tie.Need-expression-requires
+expression-requires c κs = search needs
+
+enum-known-k : tie.Need-enum-known-k
+enum-known-k c = search needs
+
+enum-known-k-2 : tie.Need-enum-known-k-2
+enum-known-k-2 c = search needs
+
+returns : tie.Need-returns
+returns c = r-rest _ _ _ _ (c .before .before .k2 .given .1) (c .before .before .before .before .before .expression .ensures) _ (c .if1 .taken)
+
+returns-2 : tie.Need-returns-2
+returns-2 c = r-bad _ _ _ _ _ (c .before .k .given .1) (c .before .before .before .before .expression .ensures)
+
+returns-3 : tie.Need-returns-3
+returns-3 c = r-whole _ _ _ _ (c .before .before .k2 .given .1) (c .before .before .before .before .before .expression .ensures) record { room = refl; no-cells = refl; no-operators = refl; no-height = refl; no-held = refl; no-place = refl } (c .before .before .before .before .before .before .before .before .before .before .before .pre .1) (c .if1 .left)
+
+pub read-spec : {M : Type 1} → statement M
+read-spec =
+    tie.close
+    (tie.spec expression-requires enum-known-k enum-known-k-2 returns returns-2 returns-3)

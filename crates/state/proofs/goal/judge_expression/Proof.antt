@@ -1,0 +1,94 @@
+use mathlib.Core.Path.{sym, _∙_}
+use Rattle.state.proofs.Goals.{told-part, goal-4, goal-8, goal-7, goal-12, goal-13, goal-held, goal-operators, goal-good}
+use borrow.Author.Needs.{needs}
+use Rattle.state.proofs.goal.judge_expression.Statement.{statement}
+use Rattle.state.proofs.goal.judge_expression.Tie as tie
+
+late-requires : tie.Need-late-requires
+late-requires c κs = search needs
+
+refused-requires : tie.Need-refused-requires
+refused-requires c κs = search needs
+
+returns : tie.Need-returns
+returns c d ns g = goal-4 _ _ _ _ _ d ns _ g _ _ (sym (c .before .before .late .ensures) ∙ c .before .if1 .taken) _ (c .refused .ensures)
+
+bad-counts-requires : tie.Need-bad-counts-requires
+bad-counts-requires c κs = search needs
+
+refused-requires-2 : tie.Need-refused-requires-2
+refused-requires-2 c κs = search needs
+
+returns-2 : tie.Need-returns-2
+returns-2 c d ns g = goal-8 _ _ _ _ _ d ns _ g _ _ (sym (c .before .before .before .before .late .ensures) ∙ c .before .before .before .if1 .left) (sym (c .before .before .bad-counts .ensures) ∙ c .before .if2 .taken) _ (c .refused2 .ensures)
+
+refused-requires-3 : tie.Need-refused-requires-3
+refused-requires-3 c κs = search needs
+
+returns-3 : tie.Need-returns-3
+returns-3 c d ns g = goal-7 _ _ _ _ _ d ns _ g _ _ (sym (c .before .before .before .before .before .late .ensures) ∙ c .before .before .before .before .if1 .left) (sym (c .before .before .before .bad-counts .ensures) ∙ c .before .before .if2 .left) (c .before .if3 .taken) _ (c .refused3 .ensures)
+
+sub-text : tie.Need-sub-text
+sub-text c = search needs
+
+part-text-start : tie.Need-part-text-start
+part-text-start c = search needs
+
+part-text-end : tie.Need-part-text-end
+part-text-end c = search needs
+
+read-requires : tie.Need-read-requires
+read-requires c κs = search needs
+
+enum-known-answer : tie.Need-enum-known-answer
+enum-known-answer c = search needs
+
+enum-known-answer-2 : tie.Need-enum-known-answer-2
+enum-known-answer-2 c = search needs
+
+enum-known-missing : tie.Need-enum-known-missing
+enum-known-missing c = search needs
+
+enum-told : tie.Need-enum-told
+enum-told c = search needs
+
+returns-4 : tie.Need-returns-4
+returns-4 c d ns g = goal-held _ _ _ _ _ d ns _ g _ _ (sym (c .before .before .before .before .before .before .before .before .before .before .before .before .before .before .late .ensures) ∙ c .before .before .before .before .before .before .before .before .before .before .before .before .before .if1 .left) (sym (c .before .before .before .before .before .before .before .before .before .before .before .before .bad-counts .ensures) ∙ c .before .before .before .before .before .before .before .before .before .before .before .if2 .left) (c .before .before .before .before .before .before .before .before .before .before .if3 .left) _ (told-part _ _ _ _ _ (c .before .before .before .before .before .before .before .before .before .before .before .before .before .before .before .before .before .before .before .pre .1 .order) (c .before .before .before .before .before .before .before .before .read .ensures)) (c .before .before .before .before .before .answer2 .given .1) (c .before .before .enum-told .given .1) (c .if4 .taken) _
+
+returns-5 : tie.Need-returns-5
+returns-5 c d ns g = goal-operators _ _ _ _ _ d ns _ g _ _ (sym (c .before .before .before .before .before .before .before .before .before .before .before .before .before .before .before .before .late .ensures) ∙ c .before .before .before .before .before .before .before .before .before .before .before .before .before .before .before .if1 .left) (sym (c .before .before .before .before .before .before .before .before .before .before .before .before .before .before .bad-counts .ensures) ∙ c .before .before .before .before .before .before .before .before .before .before .before .before .before .if2 .left) (c .before .before .before .before .before .before .before .before .before .before .before .before .if3 .left) _ (told-part _ _ _ _ _ (c .before .before .before .before .before .before .before .before .before .before .before .before .before .before .before .before .before .before .before .before .before .pre .1 .order) (c .before .before .before .before .before .before .before .before .before .before .read .ensures)) (c .before .before .before .before .before .before .before .answer2 .given .1) (c .before .before .before .before .enum-told .given .1) (c .before .before .if4 .left) (c .if5 .taken) _
+
+returns-6 : tie.Need-returns-6
+returns-6 c d ns g = goal-12 _ _ _ _ _ d ns _ g _ _ (sym (c .before .before .before .before .before .before .before .before .before .before .late .ensures) ∙ c .before .before .before .before .before .before .before .before .before .if1 .left) (sym (c .before .before .before .before .before .before .before .before .bad-counts .ensures) ∙ c .before .before .before .before .before .before .before .if2 .left) (c .before .before .before .before .before .before .if3 .left) _ (told-part _ _ _ _ _ (c .before .before .before .before .before .before .before .before .before .before .before .before .before .before .before .pre .1 .order) (c .before .before .before .before .read .ensures)) (c .before .answer .given .1) _
+
+returns-7 : tie.Need-returns-7
+returns-7 c d ns g = goal-13 _ _ _ _ _ d ns _ g _ _ (sym (c .before .before .before .before .before .before .before .before .before .before .before .before .before .late .ensures) ∙ c .before .before .before .before .before .before .before .before .before .before .before .before .if1 .left) (sym (c .before .before .before .before .before .before .before .before .before .before .before .bad-counts .ensures) ∙ c .before .before .before .before .before .before .before .before .before .before .if2 .left) (c .before .before .before .before .before .before .before .before .before .if3 .left) _ (told-part _ _ _ _ _ (c .before .before .before .before .before .before .before .before .before .before .before .before .before .before .before .before .before .before .pre .1 .order) (c .before .before .before .before .before .before .before .read .ensures)) (c .before .before .before .before .answer2 .given .1) (c .before .missing .given .1) _
+
+returns-8 : tie.Need-returns-8
+returns-8 c d ns g = goal-good _ _ _ _ _ d ns _ g _ _ (sym (c .before .before .before .before .before .before .before .before .before .before .before .before .before .before .before .before .late .ensures) ∙ c .before .before .before .before .before .before .before .before .before .before .before .before .before .before .before .if1 .left) (sym (c .before .before .before .before .before .before .before .before .before .before .before .before .before .before .bad-counts .ensures) ∙ c .before .before .before .before .before .before .before .before .before .before .before .before .before .if2 .left) (c .before .before .before .before .before .before .before .before .before .before .before .before .if3 .left) _ (told-part _ _ _ _ _ (c .before .before .before .before .before .before .before .before .before .before .before .before .before .before .before .before .before .before .before .before .before .pre .1 .order) (c .before .before .before .before .before .before .before .before .before .before .read .ensures)) (c .before .before .before .before .before .before .before .answer2 .given .1) (c .before .before .before .before .enum-told .given .1) (c .before .before .if4 .left) (c .if5 .left)
+
+pub judge-expression-spec : {M : Type 1} → statement M
+judge-expression-spec =
+    tie.close
+    (tie.spec
+    late-requires
+    refused-requires
+    returns
+    bad-counts-requires
+    refused-requires-2
+    returns-2
+    refused-requires-3
+    returns-3
+    sub-text
+    part-text-start
+    part-text-end
+    read-requires
+    enum-known-answer
+    enum-known-answer-2
+    enum-known-missing
+    enum-told
+    returns-4
+    returns-5
+    returns-6
+    returns-7
+    returns-8)

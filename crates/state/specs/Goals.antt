@@ -1,0 +1,56 @@
+-- What the code's answer on an E line means, in terms of the rows and of what is declared after it.
+use mathlib.Core.Path.{_≡_}
+use mathlib.Core.List.{List, map}
+use Prim.Native.Nat.{ℕ, zero, suc, _≤_}
+use lib.ListN.{length, take}
+use Rattle.algebra.specs.Algebra.{operators, held}
+use Rattle.algebra.specs.Program.{steps}
+use Rattle.grammar.specs.Expression.{Exp}
+use Rattle.grammar.specs.Machine.{read, reading}
+use Rattle.grammar.specs.Tree.{treeOf}
+use Rattle.expressions.specs.Cells.{cellOf}
+use Rattle.expressions.specs.declared.Program.{Program}
+use Rattle.reader.specs.Line.{expressionLine}
+use Rattle.reader.specs.Declarations.{Declared}
+use Rattle.reader.specs.Expression.{lookup}
+use Rattle.reader.specs.Rows.{Verdict, good, refuse, first, rows}
+use Rattle.state.specs.declared.State.{State}
+use Rattle.state.specs.declared.goal.Goal.{Goal}
+
+-- the verdict of an answer's number and place, 0 where the line is good
+abbrev pub verdictAt : ℕ → ℕ → Verdict
+verdictAt zero p = good
+verdictAt (suc n) p = refuse (suc n) p
+
+-- the program is that of the tree of the expression that was read
+pub record GoalGood (d : Declared) (limit : ℕ) (t : List ℕ) (p : Program) : Type 0 where
+  pub expression : Exp
+  pub reads : reading t ≡ read expression
+  pub cells : map cellOf (take (p .used) (p .cells)) ≡ steps (treeOf (lookup d) expression)
+  pub used : p .used ≡ length (steps (treeOf (lookup d) expression))
+  pub few-used : p .used ≤ 193
+  pub limited : limit ≤ 4096
+  pub few-held : held (treeOf (lookup d) expression) ≤ 14
+  pub few-operators : operators (treeOf (lookup d) expression) ≤ 64
+
+-- refused with a number and a place, or good with the number 0
+pub record GoalJudged (d : Declared) (limit : ℕ) (t : List ℕ) (j : Goal) : Type 0 where
+  pub verdict : first (rows d (expressionLine limit t)) ≡ verdictAt (j .number) (j .place)
+  pub limit-is : j .limit ≡ limit
+  pub good : j .number ≡ 0 → GoalGood d limit t (j .program)
+
+-- the state after an E line
+unfoldable pub endedOf : State → State
+endedOf st =
+    record {
+      group = 7;
+      counts = st .counts;
+      starts = st .starts;
+      ends = st .ends;
+      tags = st .tags;
+      marks = st .marks;
+      rules = st .rules;
+      many = st .many;
+      sorts = st .sorts;
+      grants = st .grants;
+    }
