@@ -1,8 +1,8 @@
 -- Laws of tests over lists and of lists made from functions: for each, how an element is found in it and what an element of it is.
 use mathlib.Core.Path.{_≡_, refl, sym, ap, _∙_, subst}
 use mathlib.Core.Logic.{_⊎_, inl, inr}
-use mathlib.Core.Bool.{Bool, true, false, false≢true}
-use mathlib.Core.List.{List, [], _∷_, List·Memᴰ, List·Memᴰ·head, List·Memᴰ·tail, List·Memᴰ·not-nil, List·Memᴰ·cases-cons, Memᴰ·append-left, Memᴰ·append-right, List·Memᴰ·append-cases, List·Memᴰ·eq-of-singleton, map, Memᴰ·map, Memᴰ·of-map}
+use mathlib.Core.Bool.{Bool, true, false, _||_, or-assoc, false≢true}
+use mathlib.Core.List.{List, [], _∷_, _++_, append-assoc, List·Memᴰ, List·Memᴰ·head, List·Memᴰ·tail, List·Memᴰ·not-nil, List·Memᴰ·cases-cons, Memᴰ·append-left, Memᴰ·append-right, List·Memᴰ·append-cases, List·Memᴰ·eq-of-singleton, map, Memᴰ·map, Memᴰ·of-map}
 use Prim.Native.Nat.{ℕ, zero, suc, _+_, _≤_, _<_}
 use native.Mathlib.Nat.{not-suc-le-zero, le-of-suc-le-suc}
 use native.Mathlib.Decide.{ℕ-discrete}
@@ -150,3 +150,13 @@ every-cong n p q h =
     bool-ext (every n p) (every n q)
     (λ e. every-intro n q (λ x l. sym (h x l) ∙ every-elim n p e x l))
     (λ e. every-intro n p (λ x l. h x l ∙ every-elim n q e x l))
+
+-- ---- lists put together
+
+pub any-append : {A : Type 0} (p : A → Bool) (l m : List A) → any p (l ++ m) ≡ (any p l || any p m)
+any-append p [] m = refl
+any-append p (x ∷ xs) m = ap (λ b. p x || b) (any-append p xs m) ∙ sym (or-assoc (p x) (any p xs) (any p m))
+
+pub gather-append : {A B : Type 0} (f : A → List B) (l m : List A) → gather f (l ++ m) ≡ gather f l ++ gather f m
+gather-append f [] m = refl
+gather-append f (x ∷ xs) m = ap (λ r. f x ++ r) (gather-append f xs m) ∙ sym (append-assoc (f x) (gather f xs) (gather f m))

@@ -11,3 +11,4 @@ pub mod Policy
 pub mod Stored
 pub mod StoredFrame
 pub mod Demands
+pub mod Bytes

@@ -20,6 +20,7 @@ use Rattle.expressions.specs.Cells.{cellOf}
 use Rattle.expressions.specs.declared.Cell.{Cell}
 use Rattle.composer.specs.Compose.{Fits}
 use Rattle.composer.specs.Turn.{Held}
+use Rattle.sets.proofs.Scopes.{stored-compared}
 
 module _ (c : Cell) where
   pub cell-table : c .kind ≡ 0 → cellOf c ≡ table-step (c .number)
@@ -90,10 +91,6 @@ module _ (c : Cell) (h : ℕ) where
 -- what the scope of a cell is
 abbrev pub ScopeIs : Cell → StoredScope → Type 0
 ScopeIs c s = (s .kind ≡ cond (eqb (c .kind) 6) 6 (c .op)) × (s .sort ≡ c .sort) × (s .x ≡ c .number)
-
-stored-compared : (s : StoredScope) → (s .kind ≡ 6 → ⊥) → storedScope s ≡ compared (storedSort (s .sort)) (storedOp (s .kind)) (s .x)
-unfolding storedScope
-stored-compared s n = rw (ne-eqb (s .kind) 6 n, storedScope)
 
 stored-marked : (s : StoredScope) → s .kind ≡ 6 → storedScope s ≡ marked (storedSort (s .sort)) (s .x)
 unfolding storedScope

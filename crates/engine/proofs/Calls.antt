@@ -16,7 +16,8 @@ use Rattle.algebra.proofs.Bytes.{length-bytes}
 use Rattle.reader.specs.Declarations.{memberAt}
 use Rattle.reader.specs.File.{Accepted, Outcome, refused, accepted, readFile}
 use Rattle.reader.proofs.Rows.{refused-number}
-use Rattle.engine.specs.Calls.{Composed, Decided, cleared, written, unchanged, composition, composed, compose, undecidedBy, answered, decided, decide}
+use Rattle.algebra.specs.Bytes.{cleared, written}
+use Rattle.engine.specs.Calls.{Composed, Decided, unchanged, composition, composed, compose, undecidedBy, answered, decided, decide}
 
 -- ---- buffers
 

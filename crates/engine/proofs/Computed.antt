@@ -20,7 +20,8 @@ use Rattle.reader.specs.Declarations.{Members, membersOf, memberAt}
 use Rattle.reader.specs.File.{Accepted, Outcome, refused, accepted, readFile}
 use Rattle.grammar.specs.Text.{text}
 use Rattle.reader.proofs.Computed.{computedFile}
-use Rattle.engine.specs.Calls.{Composed, Decided, tally, composition, unchanged, compose, undecidedBy, decide}
+use Rattle.algebra.specs.Bytes.{tally}
+use Rattle.engine.specs.Calls.{Composed, Decided, composition, unchanged, compose, undecidedBy, decide}
 use Rattle.engine.specs.Calls as Calls
 use Rattle.engine.specs.Listing.{digitsOf, decimal, closedLine, wordOf, nameOf, accessLines, grantsListing, listingOf, listing}
 use Rattle.engine.specs.Worked.{numbersOf, decisionOf}

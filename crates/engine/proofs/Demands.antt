@@ -21,7 +21,8 @@ use Rattle.reader.specs.Later.{LaterFile}
 use Rattle.reader.proofs.Lookup.{position-lt}
 use Rattle.reader.proofs.Members.{SaneFile, file-sane}
 use Rattle.reader.proofs.Later.{AcceptedFollows, later-accepted}
-use Rattle.engine.specs.Calls.{Composed, Decided, cleared, written, unchanged, composition, compose, undecidedBy, answered, decide}
+use Rattle.algebra.specs.Bytes.{cleared, written}
+use Rattle.engine.specs.Calls.{Composed, Decided, unchanged, composition, compose, undecidedBy, answered, decide}
 use Rattle.engine.specs.Demands.{KnownState, inSet, AllHere, Names, Writes, Returns, Says, composed, decided, Sound, Complete, Stable, Agree, ParentsEarlier, Demands}
 use Rattle.engine.proofs.Calls.{length-cleared, cleared-zero, cleared-beyond, length-written, written-at, written-beyond, Composes, too-short, not-read, answers, composes, Decides, decides}
 

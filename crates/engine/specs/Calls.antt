@@ -4,8 +4,9 @@ use mathlib.Core.List.{List, [], _∷_, _++_}
 use mathlib.Core.Option.{Option, none, some}
 use Prim.Native.Nat.{ℕ, zero, suc}
 use lib.Dec.{eqb, leb}
-use lib.ListN.{length, drop, replicate, getD}
+use lib.ListN.{length, getD}
 use Rattle.algebra.specs.Sort.{subject, object, action}
+use Rattle.algebra.specs.Bytes.{cleared, written, tally}
 use Rattle.algebra.specs.Policy.{Policy, accesses, members, number, bytes, policyRounds}
 use Rattle.reader.specs.Declarations.{memberAt}
 use Rattle.reader.specs.File.{Accepted, Outcome, refused, accepted, readFile}
@@ -39,21 +40,6 @@ pub record Decided : Type 0 where
   pub answer : ℕ
   pub rounds : ℕ
   pub memory : List ℕ
-
--- ---- bytes
-
--- working memory afterwards: zero in its first 65,536 bytes and unchanged beyond
-unfoldable pub cleared : List ℕ → List ℕ
-cleared m = replicate 65536 0 ++ drop 65536 m
-
--- the first bytes written, those beyond unchanged
-unfoldable pub written : List ℕ → List ℕ → List ℕ
-written bs r = bs ++ drop (length bs) r
-
--- how many bytes are b
-unfoldable pub tally : ℕ → List ℕ → ℕ
-tally b [] = 0
-tally b (x ∷ xs) = elim (eqb x b) [ true ↦ suc (tally b xs) | false ↦ tally b xs ]
 
 -- ---- Check
 

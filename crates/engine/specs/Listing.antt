@@ -11,7 +11,7 @@ use Rattle.algebra.specs.Policy.{Policy, Frame, accesses, part, bytes, policyRo
 use Rattle.grammar.specs.Text.{text}
 use Rattle.reader.specs.Declarations.{Member, Members, membersOf}
 use Rattle.reader.specs.File.{Accepted, Outcome, refused, accepted, readFile}
-use Rattle.engine.specs.Calls.{tally}
+use Rattle.algebra.specs.Bytes.{tally}
 
 -- a number in decimal; a number has at most as many digits as it counts, or one
 unfoldable pub digitsOf : ℕ → ℕ → List ℕ

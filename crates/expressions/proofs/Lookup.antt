@@ -127,15 +127,15 @@ stored-sort subject = refl
 stored-sort object = refl
 stored-sort action = refl
 
-sort-zero : (s : ℕ) → s ≡ 0 → storedSort s ≡ subject
+pub sort-zero : (s : ℕ) → s ≡ 0 → storedSort s ≡ subject
 unfolding storedSort
 sort-zero s h = rw (storedSort, eq-eqb s 0 h)
 
-sort-one : (s : ℕ) → s ≡ 1 → storedSort s ≡ object
+pub sort-one : (s : ℕ) → s ≡ 1 → storedSort s ≡ object
 unfolding storedSort
 sort-one s h = rw h
 
-sort-other : (s : ℕ) → (s ≡ 0 → ⊥) → (s ≡ 1 → ⊥) → storedSort s ≡ action
+pub sort-other : (s : ℕ) → (s ≡ 0 → ⊥) → (s ≡ 1 → ⊥) → storedSort s ≡ action
 unfolding storedSort
 sort-other s h k = rw (storedSort, ne-eqb s 0 h, ne-eqb s 1 k)
 

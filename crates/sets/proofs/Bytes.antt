@@ -13,7 +13,8 @@ use lib.Seq.{ext-getD, getD-set-same, getD-set-other, getD-append-add, getD-drop
 use borrow.Author.Tests.{eq-eqb, ne-eqb}
 use Rattle.algebra.specs.Lists.{tab}
 use Rattle.algebra.proofs.Lists.{length-tab, getD-tab, tab-cong}
-use Rattle.sets.specs.Bytes.{put, written, tally}
+use Rattle.algebra.specs.Bytes.{written, tally}
+use Rattle.sets.specs.Bytes.{put}
 
 -- ---- what stands at each place
 

@@ -1,7 +1,7 @@
 -- Laws of the grants in working memory: sets leave them alone, and a loop that marks one grant a turn.
 use mathlib.Core.Path.{_≡_, refl, sym, ap, _∙_}
 use mathlib.Core.Bool.{Bool, true, false, _||_, or-false, or-true}
-use mathlib.Core.List.{List, [], _∷_, _++_, append-assoc, append-nil}
+use mathlib.Core.List.{List, [], _∷_, _++_, append-nil}
 use Prim.Native.Nat.{ℕ, zero, suc, _+_, _*_, _/_, _%_, _≤_, _<_}
 use native.Mathlib.Nat.{le-antisymm}
 use native.Mathlib.Decide.{ℕ-discrete}
@@ -17,24 +17,13 @@ use Rattle.sets.specs.Bytes.{put}
 use Rattle.sets.specs.Sets.{Room, byteAt, putSet}
 use Rattle.sets.specs.Grants.{grantAt, grantsOf}
 use Rattle.sets.proofs.Sets.{length-putSet, putSet-low, putSet-at, putSet-high, putSet-cong, is-putSet, putSet-twice}
+use Rattle.algebra.proofs.Lists.{any-append, gather-append}
 
 -- ---- lists
-
-gather-append : {A B : Type 0} (f : A → List B) (xs ys : List A) → gather f (xs ++ ys) ≡ gather f xs ++ gather f ys
-gather-append f [] ys = refl
-gather-append f (x ∷ xs) ys = ap (λ l. f x ++ l) (gather-append f xs ys) ∙ sym (append-assoc (f x) (gather f xs) (gather f ys))
 
 gather-cong : {A B : Type 0} (f g : A → List B) (xs : List A) → ((x : A) → f x ≡ g x) → gather f xs ≡ gather g xs
 gather-cong f g [] h = refl
 gather-cong f g (x ∷ xs) h = rw (h x, gather-cong f g xs h)
-
-any-append : {A : Type 0} (p : A → Bool) (xs ys : List A) → any p (xs ++ ys) ≡ (any p xs || any p ys)
-any-append p [] ys = refl
-any-append p (x ∷ xs) ys = ap (λ b. p x || b) (any-append p xs ys) ∙ or-assoc (p x)
-  where
-    or-assoc : (a : Bool) → (a || (any p xs || any p ys)) ≡ ((a || any p xs) || any p ys)
-    or-assoc true = refl
-    or-assoc false = refl
 
 upto-more : (n : ℕ) → upto (suc n) ≡ upto n ++ (n ∷ [])
 upto-more n = from 0 n ∙ ap (λ m. upto n ++ (m ∷ [])) (omega arith)

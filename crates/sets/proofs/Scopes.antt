@@ -94,7 +94,7 @@ stored-mark : (c : StoredScope) → c .kind ≡ 6 → storedScope c ≡ marked (
 unfolding storedScope
 stored-mark c e = rw (eq-eqb (c .kind) 6 e, storedScope)
 
-stored-compared : (c : StoredScope) → (c .kind ≡ 6 → ⊥) → storedScope c ≡ compared (storedSort (c .sort)) (storedOp (c .kind)) (c .x)
+pub stored-compared : (c : StoredScope) → (c .kind ≡ 6 → ⊥) → storedScope c ≡ compared (storedSort (c .sort)) (storedOp (c .kind)) (c .x)
 unfolding storedScope
 stored-compared c e = rw (ne-eqb (c .kind) 6 e, storedScope)
 

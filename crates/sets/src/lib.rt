@@ -19,7 +19,8 @@ ghost use Rattle.algebra.specs.Policy.{Frame, members, accesses, part, inScope}
 ghost use Rattle.algebra.specs.Stored.{storedSort};
 ghost use Rattle.algebra.specs.StoredFrame.{total, Sized, Stands};
 ghost use Rattle.algebra.specs.declared.Counts.{Counts};
-ghost use Rattle.sets.specs.Bytes.{put, written, cleared, tally};
+ghost use Rattle.algebra.specs.Bytes.{written, cleared, tally};
+ghost use Rattle.sets.specs.Bytes.{put};
 ghost use Rattle.sets.specs.Sets.{answerAt, putSet, Room, Answers, operation, replaced};
 ghost use Rattle.sets.specs.Grants.{grantAt, grantsOf};
 ghost use Rattle.sets.specs.Scopes.{storedScope, Coded, Names, memberOf};

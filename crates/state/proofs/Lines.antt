@@ -30,7 +30,8 @@ use Rattle.state.specs.Standing.{flag, Few, NamesStand, Sizes, Stands, p
 use Rattle.state.specs.Judged.{lateOf, badCountsOf, MemberJudged, member-refused, member-passes, TableJudged, table-refused, table-passes, LineJudged, line-refused, line-good}
 use Rattle.state.specs.declared.State.{State}
 use Rattle.state.specs.declared.Next.{Next}
-use Rattle.state.proofs.Names.{sort-group, sort-zero, sort-one, sort-other}
+use Rattle.expressions.proofs.Lookup.{sort-zero, sort-one, sort-other}
+use Rattle.state.proofs.Names.{sort-group}
 use Rattle.state.proofs.Verdicts.{counts-are as counts-are-of}
 use Rattle.state.proofs.Found.{few-accesses}
 use Rattle.state.proofs.Adding.{member-added, table-added}

@@ -24,6 +24,7 @@ use Rattle.state.specs.Judged.{lateOf, badCountsOf, MemberJudged, member
 use Rattle.state.specs.declared.Marking.the-variants.{Unmarked, Known, Fresh}
 use Rattle.state.proofs.Verdicts.{meets-4, meets-8, meets-7, meets-5, meets-6, past-11}
 use Rattle.state.proofs.Grants.{early-4, in-order, counted}
+use Rattle.expressions.proofs.Lookup.{sort-zero, sort-one, sort-other}
 
 -- ---- a sort's number
 
@@ -33,18 +34,6 @@ sort-group zero h = refl
 sort-group (suc zero) h = refl
 sort-group (suc (suc zero)) h = refl
 sort-group (suc (suc (suc s))) h = absurd (omega arith)
-
-pub sort-zero : (s : ℕ) → s ≡ 0 → storedSort s ≡ subject
-unfolding storedSort
-sort-zero s h = rw (storedSort, eq-eqb s 0 h)
-
-pub sort-one : (s : ℕ) → s ≡ 1 → storedSort s ≡ object
-unfolding storedSort
-sort-one s h = rw h
-
-pub sort-other : (s : ℕ) → (s ≡ 0 → ⊥) → (s ≡ 1 → ⊥) → storedSort s ≡ action
-unfolding storedSort
-sort-other s h k = rw (storedSort, ne-eqb s 0 h, ne-eqb s 1 k)
 
 pub members-subject : (c : NameCounts) (s : ℕ) → s ≡ 0 → c .subjects ≡ memberCount c (storedSort s)
 members-subject c s e = rw (sort-zero s e)

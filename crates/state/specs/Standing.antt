@@ -7,7 +7,7 @@ use lib.Dec.{eqb, ltb}
 use lib.ListN.{length, getD, set, take}
 use Rattle.algebra.specs.Sort.{Sort, subject, object, action}
 use Rattle.algebra.specs.Lists.{any, gather, only, upto}
-use Rattle.algebra.specs.Stored.{storedRule}
+use Rattle.algebra.specs.Stored.{storedRule, noRule}
 use Rattle.grammar.specs.Names.{Kind}
 use Rattle.expressions.specs.Entries.{Sound, memberCount, tableBase, lookupIn}
 use Rattle.expressions.specs.declared.NameCounts.{NameCounts}
@@ -62,9 +62,6 @@ pub record Sizes (st : State) : Type 0 where
   pub tags : length (st .tags) ≡ 192
   pub marks : length (st .marks) ≡ 1024
   pub rules : length (st .rules) ≡ 64
-
-abbrev pub noRule : StoredRule
-noRule = record { set = 0; head = record { kind = 0; sort = 0; x = 0; y = 0; z = 0 }; body = []; count = 0 }
 
 -- the state, with the grants in the lent memory w, stands for what is declared, but for the expression
 pub record Stands (f w : List ℕ) (st : State) (d : Declared) : Type 0 where

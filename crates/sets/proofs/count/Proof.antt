@@ -4,7 +4,7 @@ use mathlib.Core.Logic.{⊎-elim}
 use Prim.Native.Nat.{_+_, _-_, _≤_}
 use native.Mathlib.Nat.{le-antisymm}
 use lib.ListN.{take, length-take}
-use Rattle.sets.specs.Bytes.{tally}
+use Rattle.algebra.specs.Bytes.{tally}
 use Rattle.sets.proofs.Bytes.{tally-hit, tally-miss, tally-few}
 use native.Mathlib.Omega.{arith}
 use Rattle.sets.proofs.count.Statement.{statement}
