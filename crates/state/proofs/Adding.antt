@@ -20,6 +20,7 @@ use Rattle.reader.specs.File.{add}
 use Rattle.state.specs.NameTables.{parentTag, memberEntry, predicateEntry, tableEntry, setEntry, Names}
 use Rattle.state.proofs.NameTables.{count-is, tables-are}
 use Rattle.state.specs.Standing.{grantsOf, Few, Sizes, Stands, placedOf, moreMembers, moreTables}
+use Rattle.state.proofs.Within.{more-member, more-table}
 use Rattle.state.specs.declared.State.{State}
 use Rattle.state.proofs.Entries.{entries-keep, entries-more, group-keep, group-more}
 
@@ -231,6 +232,7 @@ module _ (f w : List ℕ) (st : State) (d : Declared) (S : Stands f w st d) (σ 
     few-rules = S .few-rules;
     sorted = S .sorted;
     shaped = S .shaped;
+    within = λ k h. more-member c σ _ (S .within k h);
     no-grants = λ _. S .no-grants early;
   }
 
@@ -329,5 +331,6 @@ module _ (f w : List ℕ) (st : State) (d : Declared) (S : Stands f w st d) (fro
     few-rules = S .few-rules;
     sorted = S .sorted;
     shaped = S .shaped;
+    within = λ k h. more-table tc _ (S .within k h);
     no-grants = λ _. S .no-grants early;
   }

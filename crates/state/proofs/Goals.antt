@@ -248,6 +248,7 @@ goal-stands f w st d S limit t e = record {
   few-rules = S .few-rules;
   sorted = S .sorted;
   shaped = S .shaped;
+  within = S .within;
   no-grants = λ h. absurd (omega arith);
 }
 

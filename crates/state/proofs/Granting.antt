@@ -136,6 +136,7 @@ module _ (f w : List ℕ) (st : State) (d : Declared) (S : Stands f w st d) (t s
     few-rules = S .few-rules;
     sorted = S .sorted;
     shaped = S .shaped;
+    within = S .within;
     no-grants = λ h. absurd (omega arith);
   }
 

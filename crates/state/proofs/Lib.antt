@@ -16,3 +16,4 @@ pub mod RuleTests
 pub mod Sorts
 pub mod Terms
 pub mod Verdicts
+pub mod Within

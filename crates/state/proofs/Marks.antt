@@ -23,6 +23,7 @@ use Rattle.reader.specs.File.{add}
 use Rattle.state.specs.NameTables.{memberEntry, predicateEntry, tableEntry, setEntry, Names}
 use Rattle.state.proofs.NameTables.{predicates-are}
 use Rattle.state.specs.Standing.{flag, listedAt, Few, Sizes, Stands, placedOf, markedOf, morePredicates}
+use Rattle.state.proofs.Within.{more-predicate}
 use Rattle.state.specs.declared.State.{State}
 use Rattle.state.proofs.Entries.{entries-keep, entries-more, group-keep, group-more}
 use Rattle.state.proofs.Adding.{map-snoc, placed-sizes}
@@ -145,6 +146,7 @@ module _ (f w : List ℕ) (st : State) (d : Declared) (S : Stands f w st d) (σ 
     few-rules = S .few-rules;
     sorted = S .sorted;
     shaped = S .shaped;
+    within = S .within;
     no-grants = λ _. S .no-grants early;
   }
 
@@ -264,5 +266,6 @@ module _ (f w : List ℕ) (st : State) (d : Declared) (S : Stands f w st d) (σ 
     few-rules = S .few-rules;
     sorted = S .sorted;
     shaped = S .shaped;
+    within = λ k h. more-predicate c _ (S .within k h);
     no-grants = λ _. S .no-grants early;
   }

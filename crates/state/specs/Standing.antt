@@ -7,7 +7,7 @@ use lib.Dec.{eqb, ltb}
 use lib.ListN.{length, getD, set, take}
 use Rattle.algebra.specs.Sort.{Sort, subject, object, action}
 use Rattle.algebra.specs.Lists.{any, gather, only, upto}
-use Rattle.algebra.specs.Stored.{storedRule, noRule}
+use Rattle.algebra.specs.Stored.{storedRule, noAtom, noRule}
 use Rattle.grammar.specs.Names.{Kind}
 use Rattle.expressions.specs.Entries.{Sound, memberCount, tableBase, lookupIn}
 use Rattle.expressions.specs.declared.NameCounts.{NameCounts}
@@ -15,8 +15,9 @@ use Rattle.reader.specs.Declarations.{Predicate, Declared, count, noTable}
 use Rattle.state.specs.NameTables.{Names}
 use Rattle.reader.specs.Expression.{lookup}
 use Rattle.algebra.specs.declared.StoredRule.{StoredRule}
-use Rattle.reader.specs.Rows.{placedLast}
+use Rattle.reader.specs.Rows.{placedLast, clash}
 use Rattle.state.specs.Sorts.{Sorted}
+use Rattle.state.specs.RuleJudged.{AtomFits}
 use Rattle.state.specs.declared.State.{State}
 
 abbrev pub flag : Bool → ℕ
@@ -63,6 +64,13 @@ pub record Sizes (st : State) : Type 0 where
   pub marks : length (st .marks) ≡ 1024
   pub rules : length (st .rules) ≡ 64
 
+-- a rule's atoms are within their bounds, and none of its variables stands at two sorts
+pub record RuleWithin (c : NameCounts) (r : StoredRule) : Type 0 where
+  pub kind : r .head .kind ≡ 0
+  pub head : AtomFits c (r .head)
+  pub body : (b : ℕ) → b < r .count → AtomFits c (getD (r .body) b noAtom)
+  pub one-sort : clash (placedLast (storedRule r ∷ [])) ≡ false
+
 -- the state, with the grants in the lent memory w, stands for what is declared, but for the expression
 pub record Stands (f w : List ℕ) (st : State) (d : Declared) : Type 0 where
   pub is-group : st .group ≡ d .group
@@ -78,6 +86,7 @@ pub record Stands (f w : List ℕ) (st : State) (d : Declared) : Type 0 where
   -- the sorts of the last rule's variables, and room for four atoms in each rule
   pub sorted : Sorted (st .sorts) (placedLast (d .rules))
   pub shaped : (k : ℕ) → k < 64 → (length (getD (st .rules) k noRule .body) ≡ 4) × (getD (st .rules) k noRule .count ≤ 4)
+  pub within : (k : ℕ) → k < st .many → RuleWithin (st .counts) (getD (st .rules) k noRule)
   -- all T lines come before all G lines
   pub no-grants : st .group < 5 → st .grants ≡ 0
 
