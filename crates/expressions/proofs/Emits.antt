@@ -26,6 +26,7 @@ use Rattle.expressions.specs.Entries.{sortNumber}
 use Rattle.grammar.specs.Tree.{joined, scopeOf, treeOf, treeF, treeP}
 use Rattle.expressions.specs.Cells.{cellOf, cell, opNumber, signNumber, most-cells, most-count, countedTo, operatorsAfter, heightAfter, stored, placeOf, firstPlace, lacking, noted, emitName, emitS, emitE, emitF, emitP, Yields}
 use Rattle.expressions.proofs.Lookup.{stored-sort}
+use Rattle.expressions.proofs.Within.{filledE}
 use Rattle.grammar.proofs.Names.{entry}
 use Rattle.expressions.specs.declared.Cell.{Cell}
 use Rattle.expressions.specs.declared.Place.{Place}
@@ -427,6 +428,7 @@ module _ (number : Kind → List ℕ → Option ℕ) where
         operators-are = omega (arith, z .no-operators, x .operators-add (omega (arith, z .no-operators)));
         held-are = omega (arith, z .no-height, z .no-held, x .held-add (omega (arith, z .no-height)));
         missing-is = missesE e 0 p ∙ ap (λ (m : Place). orElse (placeOf m) (firstMissing declared (namesE e 0))) (z .no-place);
+        within = filledE number e 0 p record { size = z .room; within = λ m j b. absurd (omega arith) } .within;
       }
 
   -- at most 64 operators leave room for every step

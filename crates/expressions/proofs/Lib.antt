@@ -5,5 +5,6 @@ mod Scopes
 mod Programs
 mod SuffixWays
 mod ReaderWays
+mod Within
 pub mod Emits
 mod Whole

@@ -3,9 +3,9 @@ use mathlib.Core.Path.{_≡_}
 use mathlib.Core.Bool.{cond}
 use mathlib.Core.List.{List, map}
 use mathlib.Core.Option.{Option, none, some}
-use Prim.Native.Nat.{ℕ, _+_, _-_, max, min}
+use Prim.Native.Nat.{ℕ, _+_, _-_, _≤_, _<_, max, min}
 use lib.Dec.{eqb, ltb}
-use lib.ListN.{length, set, take}
+use lib.ListN.{length, getD, set, take}
 use Rattle.algebra.specs.Order.{Op, le, ge, lt, gt, eq}
 use Rattle.algebra.specs.Algebra.{operators, held}
 use Rattle.algebra.specs.Policy.{Scope, compared, marked}
@@ -126,6 +126,17 @@ module _ (number : Kind → List ℕ → Option ℕ) where
     emitP (override e f g) i p =
         stored (emitE g (i + 2 + length (textE e) + 1 + length (textE f) + 1) (emitE f (i + 2 + length (textE e) + 1) (emitE e (i + 2) p))) (cell 4 0 0 0)
 
+  -- a number that a name of the kind has
+  abbrev pub NumberOf : Kind → ℕ → Type 0
+  NumberOf k i = (n : List ℕ) × (number k n ≡ some i)
+
+  -- a cell whose comparison and sort are in their ranges, and whose number is that of a name
+  pub record CellWithin (c : Cell) : Type 0 where
+    pub of-table : c .kind ≡ 0 → NumberOf table (c .number)
+    pub of-member : c .kind ≡ 5 → (1 ≤ c .op) × (c .op ≤ 5) × (c .sort ≤ 2) × NumberOf (member (storedSort (c .sort))) (c .number)
+    pub of-predicate : c .kind ≡ 6 → (c .sort ≤ 2) × NumberOf (predicate (storedSort (c .sort))) (c .number)
+    pub of-closure : c .kind ≡ 7 → NumberOf rule-set (c .number)
+
   -- what a program says of the expression that was read: its first 193 steps, and what rows 13 and 14 need
   pub record Yields (e : Exp) (p : Program) : Type 0 where
     pub cells-are : map cellOf (take (p .used) (p .cells)) ≡ take most-cells (steps (treeOf number e))
@@ -133,3 +144,5 @@ module _ (number : Kind → List ℕ → Option ℕ) where
     pub operators-are : p .operators ≡ operators (treeOf number e)
     pub held-are : p .held ≡ held (treeOf number e)
     pub missing-is : placeOf (p .missing) ≡ missing (λ (k : Kind) (n : List ℕ). found (number k n)) e
+    -- where every name is declared
+    pub within : p .missing ≡ Nowhere → (j : ℕ) → j < p .used → CellWithin (getD (p .cells) j (cell 0 0 0 0))

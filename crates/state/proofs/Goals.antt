@@ -197,6 +197,7 @@ module _ (f starts ends tags : List ℕ) (c : NameCounts) (d : Declared) (ns : N
                   cells = whole .yields .cells-are ∙ take-all 193 (steps tree) short;
                   used = used-all;
                   few-used = omega (arith, used-all, short);
+                  within = whole .yields .within h;
                   limited = p7;
                   few-held = few-held;
                   few-operators = few-operators;

@@ -3,6 +3,7 @@ pub mod Adding
 pub mod Bodies
 pub mod Entries
 pub mod Found
+pub mod GoalCells
 pub mod Goals
 pub mod Granting
 pub mod Grants

@@ -2,17 +2,17 @@
 use mathlib.Core.Path.{_≡_}
 use mathlib.Core.List.{List, map}
 use Prim.Native.Nat.{ℕ, zero, suc, _≤_, _<_}
-use lib.ListN.{length, take}
+use lib.ListN.{length, getD, take}
 use Rattle.algebra.specs.Algebra.{operators, held}
 use Rattle.algebra.specs.Program.{steps}
+use Rattle.algebra.specs.Stored.{storedSort}
 use Rattle.grammar.specs.Expression.{Exp}
 use Rattle.grammar.specs.Machine.{read, reading}
 use Rattle.grammar.specs.Tree.{treeOf}
-use Rattle.algebra.specs.Stored.{storedSort}
-use Rattle.expressions.specs.Cells.{cellOf}
 use Rattle.expressions.specs.Entries.{memberCount}
-use Rattle.expressions.specs.declared.NameCounts.{NameCounts}
+use Rattle.expressions.specs.Cells.{cell, cellOf, CellWithin}
 use Rattle.expressions.specs.declared.Cell.{Cell}
+use Rattle.expressions.specs.declared.NameCounts.{NameCounts}
 use Rattle.expressions.specs.declared.Program.{Program}
 use Rattle.reader.specs.Line.{expressionLine}
 use Rattle.reader.specs.Declarations.{Declared}
@@ -33,11 +33,12 @@ pub record GoalGood (d : Declared) (limit : ℕ) (t : List ℕ) (p : Program) : 
   pub cells : map cellOf (take (p .used) (p .cells)) ≡ steps (treeOf (lookup d) expression)
   pub used : p .used ≡ length (steps (treeOf (lookup d) expression))
   pub few-used : p .used ≤ 193
+  pub within : (j : ℕ) → j < p .used → CellWithin (lookup d) (getD (p .cells) j (cell 0 0 0 0))
   pub limited : limit ≤ 4096
   pub few-held : held (treeOf (lookup d) expression) ≤ 14
   pub few-operators : operators (treeOf (lookup d) expression) ≤ 64
 
--- a cell whose numbers are within their bounds
+-- a cell whose numbers are in their ranges, for so many names
 pub record CellFits (c : NameCounts) (x : Cell) : Type 0 where
   pub table : x .kind ≡ 0 → x .number < 16
   pub member : x .kind ≡ 5 → (1 ≤ x .op) × (x .op ≤ 5) × (x .sort ≤ 2) × (x .number < memberCount c (storedSort (x .sort)))

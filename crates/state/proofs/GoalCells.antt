@@ -1,0 +1,50 @@
+-- The cells of a good goal's program are in the ranges that a run asks for.
+use mathlib.Core.Path.{_∙_}
+use mathlib.Core.List.{List}
+use Prim.Native.Nat.{ℕ, _<_}
+use native.Mathlib.Omega.{arith}
+use lib.ListN.{getD}
+use Rattle.algebra.specs.Stored.{storedSort}
+use Rattle.grammar.specs.Names.{Kind, table, member, predicate}
+use Rattle.expressions.specs.Cells.{cell, NumberOf, CellWithin}
+use Rattle.expressions.specs.declared.Cell.{Cell}
+use Rattle.expressions.specs.declared.NameCounts.{NameCounts}
+use Rattle.expressions.specs.declared.Program.{Program}
+use Rattle.reader.specs.Declarations.{Declared}
+use Rattle.reader.specs.Line.{expressionLine}
+use Rattle.reader.specs.Expression.{lookup}
+use Rattle.reader.specs.File.{add}
+use Rattle.state.specs.NameTables.{Names}
+use Rattle.state.specs.Standing.{Few, Stands}
+use Rattle.state.specs.Goals.{GoalGood, CellFits}
+use Rattle.state.specs.declared.State.{State}
+use Rattle.state.proofs.Found.{many, found-lt}
+use Rattle.state.proofs.Lines.{names-stand}
+
+module _ (f starts ends tags : List ℕ) (c : NameCounts) (few : Few c) (d : Declared) (N : Names f starts ends tags c d) where
+  -- a name's number is below the count of its kind
+  number-lt : (k : Kind) (i : ℕ) → NumberOf (lookup d) k i → i < many c k
+  number-lt k i x = found-lt f starts ends tags c k (x .0) i (names-stand f starts ends tags c d N .looks k (x .0) ∙ x .1)
+
+  within-fits : (x : Cell) → CellWithin (lookup d) x → CellFits c x
+  within-fits x h = record {
+    table = λ z. let l = number-lt table (x .number) (h .of-table z) in omega arith;
+    member = λ z. let y = h .of-member z in (y .0, y .1, y .2, number-lt (member (storedSort (x .sort))) (x .number) (y .3));
+    predicate = λ z.
+        let y = h .of-predicate z in
+        let l = number-lt (predicate (storedSort (x .sort))) (x .number) (y .1) in
+        (y .0, omega arith);
+  }
+
+module _ (f w : List ℕ) (st : State) (d : Declared) (limit : ℕ) (t : List ℕ) (p : Program) (G : GoalGood d limit t p) where
+  -- from what stands before the E line
+  pub goal-cells : Stands f w st d → (j : ℕ) → j < p .used → CellFits (st .counts) (getD (p .cells) j (cell 0 0 0 0))
+  goal-cells S j l = within-fits f (st .starts) (st .ends) (st .tags) (st .counts) (S .few) d (S .names) _ (G .within j l)
+
+  -- and from what stands after it
+  pub ended-cells : Stands f w st (add d (expressionLine limit t)) → (j : ℕ) → j < p .used → CellFits (st .counts) (getD (p .cells) j (cell 0 0 0 0))
+  unfolding add
+  ended-cells S j l = within-fits f (st .starts) (st .ends) (st .tags) (st .counts) (S .few) d names _ (G .within j l)
+    where
+      names : Names f (st .starts) (st .ends) (st .tags) (st .counts) d
+      names = record { members = S .names .members; predicates = S .names .predicates; tables = S .names .tables; sets = S .names .sets }
