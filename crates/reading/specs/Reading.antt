@@ -1,7 +1,7 @@
 -- What a reading of a whole file tells: the refusal, or the state and the program that stand for the file's policy.
 use mathlib.Core.Path.{_≡_}
 use mathlib.Core.List.{List, map}
-use mathlib.Core.Option.{some}
+use mathlib.Core.Option.{Option, some}
 use Prim.Native.Nat.{ℕ, _≤_, _<_}
 use lib.ListN.{take, getD}
 use Rattle.algebra.specs.Algebra.{Tree, held}
@@ -11,11 +11,46 @@ use Rattle.expressions.specs.Cells.{cell, cellOf}
 use Rattle.expressions.specs.declared.NameCounts.{NameCounts}
 use Rattle.reader.specs.Declarations as Declarations
 use Rattle.reader.specs.Declarations.{Declared}
-use Rattle.reader.specs.File.{policyOf, refused, accepted, readFile}
+use Rattle.reader.specs.Line.{Line}
+use Rattle.reader.specs.Rows.{good, refuse, first, rows}
+use Rattle.reader.specs.File.{policyOf, refused, accepted, readFile, judge, add}
+use Rattle.lines.specs.declared.line.Parsed.{Parsed}
+use Rattle.lines.specs.declared.line.Parsed.the-variants.{Bad, Root, Child, Predicate, Table, Grant, Rule, GrantBody, OrderBody, HasBody, Expression}
 use Rattle.state.specs.Standing.{Stands}
 use Rattle.state.specs.Goals.{CellFits}
+use Rattle.state.specs.declared.State.{State}
+use Rattle.state.specs.declared.Next.{Next}
 use Rattle.state.specs.declared.goal.Goal.{Goal}
 use Rattle.reading.specs.declared.Reading.{Reading}
+
+-- ---- a line
+
+-- the state stands for something that is declared
+pub record Held (f : List ℕ) (st : State) : Type 0 where
+  pub memory : List ℕ
+  pub declared : Declared
+  pub stands : Stands f memory st declared
+
+-- every line but those of G and E, which are read where the lent memory and the goal are
+abbrev pub Kept : Parsed → Type 0
+Kept Bad = Unit
+Kept (Root s n) = Unit
+Kept (Child s n p) = Unit
+Kept (Predicate s p m) = Unit
+Kept (Table t h) = Unit
+Kept (Grant t s o a) = ⊥
+Kept (Rule r s o a) = Unit
+Kept (GrantBody s o a) = Unit
+Kept (OrderBody k s x y) = Unit
+Kept (HasBody s p x) = Unit
+Kept (Expression n t) = ⊥
+
+-- a line of wrong form or refused by a row, or good with a state that stands for what is declared after it
+pub data LineRead (f w : List ℕ) (d : Declared) (o : Option Line) : Next → Type 0 where
+  read-refused : {k : ℕ} {st : State} → judge d o ≡ refuse k 0 → (k ≡ 0 → ⊥) → LineRead f w d o (record { number = k; state = st })
+  read-good : {st : State} (l : Line) → o ≡ some l → first (rows d l) ≡ good → Stands f w st (add d l) → LineRead f w d o (record { number = 0; state = st })
+
+-- ---- the whole file
 
 -- the goal that is declared: its limit, and the program of its tree
 pub record GoalIs (d : Declared) (c : NameCounts) (g : Goal) : Type 0 where

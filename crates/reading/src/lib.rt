@@ -1,6 +1,38 @@
 // Reads a policy file: its lines one after the other, each refused by the first row that it meets or added to the state.
+use algebra::StoredAtom;
+use algebra::StoredRule;
+use expressions::Cell;
+use expressions::NameCounts;
+use expressions::Place;
+use expressions::Program;
+use lines::line::Parsed;
+use lines::line::parse_line;
+use lines::text::Part;
+use lines::text::is_file;
+use lines::text::piece_end;
+use state::Granted;
+use state::Marking;
+use state::Next;
 use state::State;
+use state::child_line;
 use state::goal::Goal;
+use state::goal::judge_expression;
+use state::judge_grant;
+use state::judge_predicate;
+use state::placed;
+use state::root_line;
+use state::table_line;
+ghost use mathlib.Core.Path.{_≡_};
+ghost use mathlib.Core.List.{List};
+ghost use Prim.Native.Nat.{ℕ, _+_, _*_, _≤_, _<_};
+ghost use lib.ListN.{length};
+ghost use Rattle.algebra.specs.Stored.{storedSort};
+ghost use Rattle.reader.specs.Declarations.{Declared, start};
+ghost use Rattle.reader.specs.Line.{predicateLine};
+ghost use Rattle.lines.specs.Parsed.{Named, LineWithin, lineOf, textOf};
+ghost use Rattle.state.specs.Standing.{Few, Sizes, Stands, morePredicates, markedOf, grantWritten};
+ghost use Rattle.state.specs.Judged.{LineJudged};
+ghost use Rattle.reading.specs.Reading.{Held, Kept, LineRead, ReadAs};
 
 // A file refused with number, line and place; or the number 0, the state after the file's lines, and the goal of its E line.
 pub struct Reading {
@@ -9,4 +41,269 @@ pub struct Reading {
     pub place: usize,
     pub state: State,
     pub goal: Goal,
+}
+
+// ---- before the first line
+
+// Nothing is declared.
+fn empty() -> State
+    ensures { λ r. ⌜ ((f w : List ℕ) → Stands f w r start) ⌝ }
+{
+    let counts = NameCounts {
+        subjects: 0,
+        objects: 0,
+        actions: 0,
+        predicates: 0,
+        tables: 0,
+        sets: 0,
+    };
+    let atom = StoredAtom {
+        kind: 0,
+        sort: 0,
+        x: 0,
+        y: 0,
+        z: 0,
+    };
+    let rule = StoredRule {
+        set: 0,
+        head: atom,
+        body: [atom; 4],
+        count: 0,
+    };
+    State {
+        group: 0,
+        counts,
+        starts: [0; 192],
+        ends: [0; 192],
+        tags: [0; 192],
+        marks: [0; 1024],
+        rules: [rule; 64],
+        many: 0,
+        sorts: [3; 4],
+        grants: 0,
+    }
+}
+
+// What stands in a goal's place until the E line.
+fn no_goal() -> Goal {
+    let cell = Cell {
+        kind: 0,
+        sort: 0,
+        op: 0,
+        number: 0,
+    };
+    let program = Program {
+        cells: [cell; 193],
+        used: 0,
+        operators: 0,
+        height: 0,
+        held: 0,
+        missing: Place::Nowhere,
+    };
+    Goal {
+        number: 0,
+        place: 0,
+        limit: 0,
+        program,
+    }
+}
+
+// ---- P lines
+
+fn wide(x: u8) -> usize
+    ensures { λ r. ⌜ r ≡ x ⌝ }
+{
+    x as usize
+}
+
+// The state with a mark of member x by predicate p.
+fn marked(st: State, p: u8, x: u8) -> State
+    requires { ⌜ Sizes st × (p < 16) × (x < 64) ⌝ }
+    ensures { λ r. ⌜ r ≡ markedOf st p x ⌝ }
+{
+    let mut next = st;
+    let i = wide(p) * 64 + wide(x);
+    next.marks[i] = 1;
+    next.group = 3;
+    next
+}
+
+// The counts with one predicate more.
+fn more_predicates(n: NameCounts) -> NameCounts
+    requires { ⌜ Few n ⌝ }
+    ensures { λ r. ⌜ r ≡ morePredicates n ⌝ }
+{
+    let mut next = n;
+    next.predicates = n.predicates + 1;
+    next
+}
+
+// A predicate's line: a mark, of a predicate that is there or that this line declares.
+pub fn predicate_line(f: &[u8], st: State, s: u8, p: Part, m: Part) -> Next
+    requires { ⌜ Held (now f) st × Named (now f) p × Named (now f) m × (s ≤ 2) × (length (now f) ≤ 32768) ⌝ }
+    ensures { λ r. ⌜ ((w : List ℕ) (d : Declared) → Stands (now (f .entry)) w st d → LineJudged (now (f .entry)) w d (predicateLine (storedSort s) (textOf (now (f .entry)) p) (textOf (now (f .entry)) m)) r) ⌝ }
+{
+    let n = st.counts;
+    let j = judge_predicate(f, &st.starts, &st.ends, &st.tags, n, st.group, s, p, m);
+    match j {
+        Marking::Unmarked(k) => Next {
+            number: k,
+            state: st,
+        },
+        Marking::Known(i, x) => {
+            let state = marked(st, i, x);
+            Next { number: 0, state }
+        }
+        Marking::Fresh(x) => {
+            let i = n.predicates;
+            let named = placed(st, 144 + wide(i), p, s, more_predicates(n), 3);
+            let state = marked(named, i, x);
+            Next { number: 0, state }
+        }
+    }
+}
+
+// ---- lines
+
+// A line that is neither G, whose grant goes to the lent memory, nor E, which has a goal.
+fn other_line(f: &[u8], st: State, l: Parsed) -> Next
+    requires { ⌜ Held (now f) st × LineWithin (now f) l × Kept l × (length (now f) ≤ 32768) ⌝ }
+    ensures { λ r. ⌜ ((w : List ℕ) (d : Declared) → Stands (now (f .entry)) w st d → LineRead (now (f .entry)) w d (lineOf (now (f .entry)) l) r) ⌝ }
+{
+    match l {
+        Parsed::Root(s, name) => root_line(f, st, s, name),
+        Parsed::Child(s, name, parent) => child_line(f, st, s, name, parent),
+        Parsed::Predicate(s, p, m) => predicate_line(f, st, s, p, m),
+        Parsed::Table(t, here) => table_line(f, st, t, here),
+        _ => Next {
+            number: 3,
+            state: st,
+        },
+    }
+}
+
+// Writes grant i.
+fn put_grant(w: &mut [u8], i: usize, g: u16)
+    requires { ⌜ 2 * i + 1 < length (now w) ⌝ }
+    ensures { λ _. ⌜ now (w .exit) ≡ grantWritten (now (w .entry)) i g ⌝ }
+{
+    let at = 2 * i;
+    w[at] = (g % 256) as u8;
+    w[at + 1] = (g / 256) as u8;
+}
+
+// ---- the whole file
+
+// The grants go to the lent memory, two bytes each.
+pub fn read_policy(f: &[u8], w: &mut [u8]) -> Reading
+    requires { ⌜ length (now w) ≡ 8192 ⌝ }
+    ensures { λ r. ⌜ ReadAs (now (f .entry)) (now (w .exit)) r ⌝ }
+{
+    let mut st = empty();
+    let mut goal = no_goal();
+    if !is_file(f) {
+        return Reading {
+            number: 2,
+            line: 0,
+            place: 0,
+            state: st,
+            goal,
+        };
+    }
+    let to = f.len();
+    let mut at = 0;
+    let mut line = 0;
+    while at < to {
+        let end = piece_end(f, at, to, 10);
+        let l = parse_line(f, at, end);
+        line += 1;
+        at = end + 1;
+        match l {
+            Parsed::Grant(t, s, o, a) => {
+                let n = st.counts;
+                let j = judge_grant(
+                    f,
+                    &st.starts,
+                    &st.ends,
+                    &st.tags,
+                    n,
+                    st.group,
+                    t,
+                    s,
+                    o,
+                    a,
+                );
+                match j {
+                    Granted::Refused(k) => {
+                        return Reading {
+                            number: k,
+                            line,
+                            place: 0,
+                            state: st,
+                            goal,
+                        };
+                    }
+                    Granted::Grant(g) => {
+                        put_grant(w, st.grants, g);
+                        st.grants = st.grants + 1;
+                        st.group = 5;
+                        continue;
+                    }
+                }
+            }
+            Parsed::Expression(limit, t) => {
+                let n = st.counts;
+                goal = judge_expression(
+                    f,
+                    &st.starts,
+                    &st.ends,
+                    &st.tags,
+                    n,
+                    st.group,
+                    limit,
+                    t,
+                );
+                if goal.number != 0 {
+                    return Reading {
+                        number: goal.number,
+                        line,
+                        place: goal.place,
+                        state: st,
+                        goal,
+                    };
+                }
+                st.group = 7;
+                continue;
+            }
+            _ => {
+                let next = other_line(f, st, l);
+                if next.number != 0 {
+                    return Reading {
+                        number: next.number,
+                        line,
+                        place: 0,
+                        state: st,
+                        goal,
+                    };
+                }
+                st = next.state;
+            }
+        }
+    }
+    if st.group != 7 {
+        return Reading {
+            number: 9,
+            line: 0,
+            place: 0,
+            state: st,
+            goal,
+        };
+    }
+    Reading {
+        number: 0,
+        line: 0,
+        place: 0,
+        state: st,
+        goal,
+    }
 }

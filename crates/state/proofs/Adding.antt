@@ -21,6 +21,7 @@ use Rattle.state.specs.NameTables.{parentTag, memberEntry, predicateEntr
 use Rattle.state.proofs.NameTables.{count-is, tables-are}
 use Rattle.state.specs.Standing.{grantsOf, Few, Sizes, Stands, placedOf, moreMembers, moreTables}
 use Rattle.state.proofs.Within.{more-member, more-table}
+use Rattle.state.proofs.AllGrants.{granted-more}
 use Rattle.state.specs.declared.State.{State}
 use Rattle.state.proofs.Entries.{entries-keep, entries-more, group-keep, group-more}
 
@@ -228,6 +229,7 @@ module _ (f w : List ℕ) (st : State) (d : Declared) (S : Stands f w st d) (σ 
     counted = λ h. absurd (omega (arith, sort-under σ));
     marks = S .marks;
     grants = S .grants;
+    all-grants = S .all-grants;
     rules = S .rules;
     few-rules = S .few-rules;
     sorted = S .sorted;
@@ -327,6 +329,7 @@ module _ (f w : List ℕ) (st : State) (d : Declared) (S : Stands f w st d) (fro
     counted = λ _. counted;
     marks = S .marks;
     grants = table-grants;
+    all-grants = S .all-grants ∙ sym (granted-more (d .tables) (slice from to f) h);
     rules = S .rules;
     few-rules = S .few-rules;
     sorted = S .sorted;

@@ -245,6 +245,7 @@ goal-stands f w st d S limit t e = record {
   counted = λ h. few-after f w st d S (expressionLine limit t) e (omega arith);
   marks = S .marks;
   grants = S .grants;
+  all-grants = S .all-grants;
   rules = S .rules;
   few-rules = S .few-rules;
   sorted = S .sorted;

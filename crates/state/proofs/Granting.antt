@@ -18,6 +18,7 @@ use Rattle.reader.specs.Declarations.{Table, Declared, noTable, tableAt, access
 use Rattle.reader.specs.File.{add}
 use Rattle.state.specs.NameTables.{memberEntry, tableEntry, Names}
 use Rattle.state.specs.Standing.{grantAt, grantsOf, Few, Sizes, Stands, grantedOf, grantWritten}
+use Rattle.state.proofs.AllGrants.{granted-with}
 use Rattle.state.specs.declared.State.{State}
 
 -- ---- one grant more in the memory
@@ -132,6 +133,7 @@ module _ (f w : List ℕ) (st : State) (d : Declared) (S : Stands f w st d) (t s
     counted = λ _. counted;
     marks = S .marks;
     grants = now-granted;
+    all-grants = ap (λ (n : ℕ). n + 1) (S .all-grants) ∙ sym (granted-with (d .tables) k x in-tables);
     rules = S .rules;
     few-rules = S .few-rules;
     sorted = S .sorted;

@@ -5,6 +5,7 @@ pub mod Entries
 pub mod Found
 pub mod GoalCells
 pub mod Goals
+pub mod AllGrants
 pub mod Granting
 pub mod Grants
 pub mod Heads

@@ -142,6 +142,7 @@ module _ (f w : List ℕ) (st : State) (d : Declared) (S : Stands f w st d) (σ 
     counted = λ _. counted;
     marks = known-marks;
     grants = S .grants;
+    all-grants = S .all-grants;
     rules = S .rules;
     few-rules = S .few-rules;
     sorted = S .sorted;
@@ -262,6 +263,7 @@ module _ (f w : List ℕ) (st : State) (d : Declared) (S : Stands f w st d) (σ 
     counted = λ _. counted;
     marks = fresh-marks;
     grants = S .grants;
+    all-grants = S .all-grants;
     rules = S .rules;
     few-rules = S .few-rules;
     sorted = S .sorted;

@@ -11,7 +11,7 @@ use Rattle.algebra.specs.Stored.{storedRule, noAtom, noRule}
 use Rattle.grammar.specs.Names.{Kind}
 use Rattle.expressions.specs.Entries.{Sound, memberCount, tableBase, lookupIn}
 use Rattle.expressions.specs.declared.NameCounts.{NameCounts}
-use Rattle.reader.specs.Declarations.{Predicate, Declared, count, noTable}
+use Rattle.reader.specs.Declarations.{Predicate, Table, Declared, count, noTable}
 use Rattle.state.specs.NameTables.{Names}
 use Rattle.reader.specs.Expression.{lookup}
 use Rattle.algebra.specs.declared.StoredRule.{StoredRule}
@@ -71,6 +71,11 @@ pub record RuleWithin (c : NameCounts) (r : StoredRule) : Type 0 where
   pub body : (b : ℕ) → b < r .count → AtomFits c (getD (r .body) b noAtom)
   pub one-sort : clash (placedLast (storedRule r ∷ [])) ≡ false
 
+-- how many grants the tables have
+unfoldable pub granted : List Table → ℕ
+granted [] = 0
+granted (t ∷ ts) = length (t .grants) + granted ts
+
 -- the state, with the grants in the lent memory w, stands for what is declared, but for the expression
 pub record Stands (f w : List ℕ) (st : State) (d : Declared) : Type 0 where
   pub is-group : st .group ≡ d .group
@@ -81,6 +86,7 @@ pub record Stands (f w : List ℕ) (st : State) (d : Declared) : Type 0 where
   pub counted : 3 ≤ st .group → st .counts .subjects * st .counts .objects * st .counts .actions ≤ 4096
   pub marks : (p x : ℕ) → p < 16 → x < 64 → getD (st .marks) (p * 64 + x) 0 ≡ flag (any (eqb x) (listedAt (d .predicates) p))
   pub grants : (i : ℕ) → i < length (d .tables) → grantsOf i (st .grants) w ≡ getD (d .tables) i noTable .grants
+  pub all-grants : st .grants ≡ granted (d .tables)
   pub rules : d .rules ≡ map storedRule (take (st .many) (st .rules))
   pub few-rules : st .many ≤ 64
   -- the sorts of the last rule's variables, and room for four atoms in each rule
