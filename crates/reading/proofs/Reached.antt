@@ -7,7 +7,7 @@ use Prim.Native.Nat.{ℕ, zero, suc, _+_, _*_, _-_, _<_, _≤_}
 use native.Mathlib.Omega.{arith}
 use native.Mathlib.Numerals.{add-one}
 use lib.ListN.{length, getD}
-use lib.Seq.{slice}
+use lib.Seq.{slice, length-slice}
 use lib.Dec.{eqb, ltb}
 use borrow.Author.Tests.{eqb-false}
 use Rattle.algebra.specs.Sort.{Sort, subject, object, action}
@@ -31,6 +31,16 @@ use Rattle.state.specs.declared.goal.Goal.{Goal}
 use Rattle.state.proofs.Goals.{goal-no, goal-yes, goal-added, goal-stands}
 use Rattle.state.proofs.GoalCells.{goal-cells}
 use Rattle.reading.specs.Reading.{GoalIs, ReadGood, ReadAs, LineRead, read-refused, read-good}
+use Rattle.lines.specs.Parsed.{lineOf}
+use Rattle.lines.specs.declared.line.Parsed.{Parsed}
+use Rattle.state.specs.Standing.{grantedOf, grantWritten}
+use Rattle.state.specs.Judged.{GrantJudged}
+use Rattle.state.specs.declared.Granted.{Granted}
+use Rattle.state.specs.declared.Granted.the-variants.{Refused, Grant}
+use Rattle.reading.specs.Reading.{Kept}
+use Rattle.reading.proofs.Others.{kept-group, granted-same, read-no, read-yes}
+use Rattle.reading.proofs.GrantLine.{grant-no, grant-good, grant-stands}
+use Rattle.reading.proofs.Lengths.{grant-long}
 use Rattle.reading.specs.declared.Reading.{Reading}
 use Rattle.reading.proofs.Cut.{File, line-ends, line-refused, line-added, no-lines, is-read, read-start}
 
@@ -45,18 +55,21 @@ pub record Reached (f w : List ℕ) (st : State) (g : Goal) (at line : ℕ) : Ty
   pub no-goal : (declared .group ≡ 7 → ⊥) → declared .goal ≡ none
   pub goal-is : declared .group ≡ 7 → GoalIs declared (st .counts) g
 
-pub at-start : (f w : List ℕ) (st : State) (g : Goal) → isFile f ≡ true → Stands f w st start → st .grants ≡ 0 → Reached f w st g 0 0
+pub at-start : (f w : List ℕ) (st : State) (g : Goal) → isFile f ≡ true → Stands f w st start → Reached f w st g 0 0
 unfolding start
-at-start f w st g h S z = record {
+at-start f w st g h S = record {
   declared = start;
   stands = S;
   rest = read-start f h;
-  room = omega arith;
+  room = let g = S .is-group in let z = S .no-grants (omega arith) in omega arith;
   within = omega arith;
   counted = omega arith;
   no-goal = λ _. refl;
   goal-is = λ e. absurd (omega arith);
 }
+
+pub refuse-as : (f w : List ℕ) (k l p : ℕ) (st : State) (g : Goal) → (k ≡ 0 → ⊥) → readFile f ≡ refused k l p → ReadAs f w (record { number = k; line = l; place = p; state = st; goal = g })
+refuse-as f w k l p st g ne e = record { no = λ _. e; yes = λ z. absurd (ne z) }
 
 -- ---- what a line adds
 
@@ -97,8 +110,19 @@ module _ (f w : List ℕ) (st : State) (g : Goal) (at line r : ℕ) (F : File f)
   abbrev d : Declared
   d = R .declared
 
-  pub refused-at : (k p : ℕ) → judge d (parse (slice at r f)) ≡ refuse k p → readFile f ≡ refused k (line + 1) p
-  refused-at k p h = R .rest ∙ line-refused f at r less (F .closed) e (line + 1) d k p h
+  -- a line that a row refuses
+  pub refused-line : (l : Line) → parse (slice at r f) ≡ some l → (k p : ℕ) → first (rows d l) ≡ refuse k p
+      → (w′ : List ℕ) (st′ : State) (g′ : Goal) → ReadAs f w′ (record { number = k; line = line + 1; place = p; state = st′; goal = g′ })
+  unfolding judge
+  refused-line l q k p h w′ st′ g′ =
+      refuse-as f w′ k (line + 1) p st′ g′ (λ z. let n = rows-number d l k p h in omega arith) (R .rest ∙ line-refused f at r less (F .closed) e (line + 1) d k p (ap (judge d) q ∙ h))
+
+  -- a line that is read by value
+  pub other-no : (o : Option Line) → o ≡ parse (slice at r f) → (n : Next) → LineRead f w d o n → (n .number ≡ 0 → ⊥)
+      → (w′ : List ℕ) (st′ : State) (g′ : Goal) → ReadAs f w′ (record { number = n .number; line = line + 1; place = 0; state = st′; goal = g′ })
+  other-no o q n L ne w′ st′ g′ =
+      refuse-as f w′ (n .number) (line + 1) 0 st′ g′ ne
+      (R .rest ∙ line-refused f at r less (F .closed) e (line + 1) d (n .number) 0 (ap (judge d) (sym q) ∙ read-no f w d o n L ne))
 
   pub next : r < length f
   next = line-ends f at r less (F .closed) e
@@ -116,6 +140,27 @@ module _ (f w : List ℕ) (st : State) (g : Goal) (at line r : ℕ) (F : File f)
     no-goal = λ _. add-goal d l ne ∙ R .no-goal (before-end d l h);
     goal-is = λ q. absurd (ne (sym (add-group d l) ∙ q));
   }
+
+  pub other-yes : (p : Parsed) → Kept p → lineOf f p ≡ parse (slice at r f) → (n : Next) → LineRead f w d (lineOf f p) n → n .number ≡ 0 → Reached f w (n .state) g (r + 1) (line + 1)
+  other-yes p k q n L z =
+      let t = read-yes f w d (lineOf f p) n L z in
+      let h = kept-group f p (t .line) k (t .is) in
+      let same = t .stands .all-grants ∙ granted-same d (t .line) (h .0) ∙ sym (R .stands .all-grants) in
+      added (t .line) (sym q ∙ t .is) (t .is-good) (h .1) w (n .state) (t .stands) (let m = R .room in omega arith)
+
+  -- a G line
+  pub grant-next : (t s o a : List ℕ) → parse (slice at r f) ≡ some (grantLine t s o a) → (j : Granted) → GrantJudged d t s o a j → (x : ℕ) → j ≡ Grant x → 2 * st .grants + 1 < length w
+      → (w′ : List ℕ) (st′ : State) → w′ ≡ grantWritten w (st .grants) x → st′ ≡ grantedOf st → Reached f w′ st′ g (r + 1) (line + 1)
+  unfolding groupOf grantedOf
+  grant-next t s o a q j J x jx fits w′ st′ ew es =
+      added (grantLine t s o a) q (grant-good f w st d (R .stands) t s o a j J x jx) (λ z. omega arith) w′ st′
+      (grant-stands f w st d (R .stands) t s o a j J x jx fits w′ st′ ew es)
+      (let l = grant-long (slice at r f) t s o a q in
+      let m = R .room in
+      let n = next in
+      let k = length-slice at r f (omega arith) in
+      let g = ap (λ (y : State). y .grants) es in
+      omega arith)
 
   -- an E line
   pub ended-at : (limit : ℕ) (t : List ℕ) → parse (slice at r f) ≡ some (expressionLine limit t) → (j : Goal) → GoalJudged d limit t j → j .number ≡ 0
@@ -157,15 +202,18 @@ module _ (f w : List ℕ) (st : State) (g : Goal) (at line : ℕ) (F : File f) (
   unfolding ended
   no-end ne = rest-ended ∙ ap (ended (R .declared)) (R .no-goal (λ q. ne (R .stands .is-group ∙ q)))
 
-  pub all-read : st .group ≡ 7 → (line′ place′ : ℕ) → ReadGood f w (record { number = 0; line = line′; place = place′; state = st; goal = g })
+  pub all-read : st .group ≡ 7 → ReadAs f w (record { number = 0; line = 0; place = 0; state = st; goal = g })
   unfolding ended
-  all-read q line′ place′ = record {
-    declared = R .declared;
-    stands = R .stands;
-    goal = G;
-    outcome = rest-ended ∙ ap (ended (R .declared)) (G .same);
-    few-grants = let r = R .room in let s = F .short in omega arith;
-  }
+  all-read q = record { no = λ ne. absurd (ne refl); yes = λ _. accepted-file }
     where
       G : GoalIs (R .declared) (st .counts) g
       G = R .goal-is (sym (R .stands .is-group) ∙ q)
+
+      accepted-file : ReadGood f w (record { number = 0; line = 0; place = 0; state = st; goal = g })
+      accepted-file = record {
+        declared = R .declared;
+        stands = R .stands;
+        goal = G;
+        outcome = rest-ended ∙ ap (ended (R .declared)) (G .same);
+        few-grants = let r = R .room in let s = F .short in omega arith;
+      }

@@ -10,6 +10,10 @@ use lines::line::parse_line;
 use lines::text::Part;
 use lines::text::is_file;
 use lines::text::piece_end;
+use rule_lines::grant_body_line;
+use rule_lines::has_body_line;
+use rule_lines::order_body_line;
+use rule_lines::rule_line;
 use state::Granted;
 use state::Marking;
 use state::Next;
@@ -175,6 +179,10 @@ fn other_line(f: &[u8], st: State, l: Parsed) -> Next
         Parsed::Child(s, name, parent) => child_line(f, st, s, name, parent),
         Parsed::Predicate(s, p, m) => predicate_line(f, st, s, p, m),
         Parsed::Table(t, here) => table_line(f, st, t, here),
+        Parsed::Rule(set, s, o, a) => rule_line(f, st, set, s, o, a),
+        Parsed::GrantBody(s, o, a) => grant_body_line(f, st, s, o, a),
+        Parsed::OrderBody(op, s, x, y) => order_body_line(f, st, op, s, x, y),
+        Parsed::HasBody(s, p, x) => has_body_line(f, st, s, p, x),
         _ => Next {
             number: 3,
             state: st,

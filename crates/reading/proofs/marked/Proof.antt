@@ -1,3 +1,4 @@
+use Rattle.state.specs.Standing.{markedOf}
 use borrow.Author.Needs.{needs}
 use Rattle.reading.proofs.marked.Statement.{statement}
 use Rattle.reading.proofs.marked.Tie as tie
@@ -21,7 +22,8 @@ element-write-next : tie.Need-element-write-next
 element-write-next c = search needs
 
 returns : tie.Need-returns
-returns c = ?
+unfolding markedOf
+returns c = rw (c .before .wide .ensures, c .wide2 .ensures)
 
 pub marked-spec : {M : Type 1} → statement M
 marked-spec =
