@@ -150,13 +150,13 @@ of-grant : (t s o a : List ℕ) (n : ℕ) → length t + (length s + (length o +
 unfolding readGrant
 of-grant t s o a n h =
     where-true n (isName t && (isName s && (isName o && isName a))) (some (grantLine t s o a)) (λ e.
-      let e1 = and-right (isName t) (isName s && (isName o && isName a)) e in
-      let e2 = and-right (isName s) (isName o && isName a) e1 in
-      let p = name-some t (and-left (isName t) (isName s && (isName o && isName a)) e) in
-      let q = name-some s (and-left (isName s) (isName o && isName a) e1) in
-      let r = name-some o (and-left (isName o) (isName a) e2) in
-      let u = name-some a (and-right (isName o) (isName a) e2) in
-      omega arith)
+    let e1 = and-right (isName t) (isName s && (isName o && isName a)) e in
+    let e2 = and-right (isName s) (isName o && isName a) e1 in
+    let p = name-some t (and-left (isName t) (isName s && (isName o && isName a)) e) in
+    let q = name-some s (and-left (isName s) (isName o && isName a) e1) in
+    let r = name-some o (and-left (isName o) (isName a) e2) in
+    let u = name-some a (and-right (isName o) (isName a) e2) in
+    omega arith)
 
 of-fields : (ps : List (List ℕ)) (n : ℕ) → total ps ≡ suc n → least (ofFields ps) ≤ n
 unfolding ofFields ofFive

@@ -229,18 +229,7 @@ pub fn read_policy(f: &[u8], w: &mut [u8]) -> Reading
         match l {
             Parsed::Grant(t, s, o, a) => {
                 let n = st.counts;
-                let j = judge_grant(
-                    f,
-                    &st.starts,
-                    &st.ends,
-                    &st.tags,
-                    n,
-                    st.group,
-                    t,
-                    s,
-                    o,
-                    a,
-                );
+                let j = judge_grant(f, &st.starts, &st.ends, &st.tags, n, st.group, t, s, o, a);
                 match j {
                     Granted::Refused(k) => {
                         return Reading {
@@ -261,16 +250,7 @@ pub fn read_policy(f: &[u8], w: &mut [u8]) -> Reading
             }
             Parsed::Expression(limit, t) => {
                 let n = st.counts;
-                goal = judge_expression(
-                    f,
-                    &st.starts,
-                    &st.ends,
-                    &st.tags,
-                    n,
-                    st.group,
-                    limit,
-                    t,
-                );
+                goal = judge_expression(f, &st.starts, &st.ends, &st.tags, n, st.group, limit, t);
                 if goal.number != 0 {
                     return Reading {
                         number: goal.number,

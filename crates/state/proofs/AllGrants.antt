@@ -4,7 +4,6 @@ use mathlib.Core.Bool.{Bool}
 use mathlib.Core.List.{List, [], _∷_, _++_}
 use Prim.Native.Nat.{ℕ, zero, suc, _+_, _<_}
 use native.Mathlib.Omega.{arith}
-
 use lib.ListN.{length, getD, set, length-append}
 use Rattle.reader.specs.Declarations.{Table, noTable, granting, withGrant}
 use Rattle.state.specs.Standing.{granted}
