@@ -1,1 +1,3 @@
--- The laws behind the proofs.
+-- The laws behind the proofs: the sorts of a rule's variables, and the rules.
+pub mod Uses
+pub mod Rules

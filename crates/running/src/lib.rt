@@ -46,7 +46,7 @@ fn flags(tags: &[u8]) -> [u8; 16]
 }
 
 // Fills the table of the frame from the members' tags and the marks.
-fn fill_table(t: &mut [u8], tags: &[u8], marks: &[u8], n: Counts)
+fn fill_table<'a>(t: &mut [u8], tags: &'a [u8], marks: &'a [u8], n: Counts)
     requires { ⌜ (length (now t) ≡ 16384) × (length (now tags) ≡ 192) × (length (now marks) ≡ 1024) ⌝ }
     requires { ⌜ (n .subjects ≤ 64) × (n .objects ≤ 64) × (n .actions ≤ 16) ⌝ }
     requires { ⌜ ((σ : Sort) → Ordered (parentsOf (tagsOf (now tags) n σ))) ⌝ }
