@@ -82,7 +82,7 @@ mem-at [] i d h = absurd (omega arith)
 mem-at (x ∷ l) zero d h = List·Memᴰ·head refl
 mem-at (x ∷ l) (suc i) d h = List·Memᴰ·tail (mem-at l i d (omega arith))
 
-size-is : (c : NameCounts) (σ : Sort) → sizeOf (countsOf c) σ ≡ memberCount c σ
+pub size-is : (c : NameCounts) (σ : Sort) → sizeOf (countsOf c) σ ≡ memberCount c σ
 size-is c subject = refl
 size-is c object = refl
 size-is c action = refl

@@ -55,7 +55,13 @@ fn fill_table<'a>(t: &mut [u8], tags: &'a [u8], marks: &'a [u8], n: Counts)
     let subjects = wide(n.subjects);
     let objects = 64 + wide(n.objects);
     let actions = 128 + wide(n.actions);
-    tables(t, &tags[0..subjects], &tags[64..objects], &tags[128..actions], marks);
+    tables(
+        t,
+        &tags[0..subjects],
+        &tags[64..objects],
+        &tags[128..actions],
+        marks,
+    );
 }
 
 // Runs the policy of an accepted file, whose grants are in the memory from byte 57,344 on; returns the sum of the rounds.
