@@ -6,7 +6,7 @@ use native.Mathlib.Omega.{arith}
 use lib.ListN.{length, getD, take}
 use Rattle.algebra.specs.Sort.{Sort, subject, object, action}
 use Rattle.algebra.specs.Order.{Ordered}
-use Rattle.algebra.specs.Policy.{Policy, parents, members}
+use Rattle.algebra.specs.Policy.{Frame, Policy, parents, members}
 use Rattle.algebra.specs.Stored.{storedSort, storedRule}
 use Rattle.algebra.specs.StoredFrame.{sizeOf, total, parentsOf, Stands}
 use Rattle.algebra.specs.StoredFrame as Frames
@@ -60,10 +60,10 @@ module _ (f w : List ℕ) (r : Reading) (G : ReadGood f (grantsPart w) r) where
   unfolding policyOf
   same-parents = parents-are f (st .starts) (st .ends) (st .tags) c (G .declared) (G .stands .names) within
 
-  pub is-ordered : (σ : Sort) → Ordered (parentsOf (tagsOf (st .tags) n σ))
+  is-ordered : (σ : Sort) → Ordered (parentsOf (tagsOf (st .tags) n σ))
   is-ordered σ = subst Ordered (same-parents σ) (sane .is-ordered σ)
 
-  pub same-counts : (σ : Sort) → members (policyIn G .frame) σ ≡ sizeOf n σ
+  same-counts : (σ : Sort) → members (policyIn G .frame) σ ≡ sizeOf n σ
   unfolding count
   same-counts σ = sane .counted σ ∙ count-is f (st .starts) (st .ends) (st .tags) c (G .declared) (G .stands .names) σ ∙ sym (size-is c σ)
 
@@ -72,7 +72,7 @@ module _ (f w : List ℕ) (r : Reading) (G : ReadGood f (grantsPart w) r) where
   most object = G .stands .few .objects
   most action = omega (arith, G .stands .few .actions)
 
-  pub is-listed : Listed (policyIn G .frame) (tagsOf (st .tags) n subject) (tagsOf (st .tags) n object) (tagsOf (st .tags) n action) (st .marks)
+  is-listed : Listed (policyIn G .frame) (tagsOf (st .tags) n subject) (tagsOf (st .tags) n object) (tagsOf (st .tags) n action) (st .marks)
   unfolding policyOf
   is-listed =
       record {
@@ -111,34 +111,43 @@ module _ (f w : List ℕ) (r : Reading) (G : ReadGood f (grantsPart w) r) where
         predicate = g .predicate;
       }
 
-  pub is-sized : 65536 ≤ length w → Sized n (length w) 16384 (r .goal .program) (st .grants) (st .rules) (st .many) (r .goal .limit)
-  is-sized long =
-      let safe = safe-program (r .goal .program) (G .goal .tree) (G .goal .cells) (G .goal .few-held) in
-      record {
-        memory = long;
-        closes = ready;
-        few-grants = G .few-grants;
-        low-limit = G .goal .limited;
-        few-cells = G .goal .few-used;
-        fits = fits;
-        operands = safe .0;
-        few-sets = safe .1;
-      }
+  -- ---- the same, where the counts and the number of rules have come from calls
 
-  -- ---- the data is that of the policy
+  module _ (n₁ : Counts) (same-n : n₁ ≡ n) (many : ℕ) (same-many : many ≡ st .many) where
+    pub can-fill : ((n₁ .subjects ≤ 64) × (n₁ .objects ≤ 64) × (n₁ .actions ≤ 16)) × ((σ : Sort) → Ordered (parentsOf (tagsOf (st .tags) n₁ σ)))
+    can-fill = subst (λ (m : Counts). ((m .subjects ≤ 64) × (m .objects ≤ 64) × (m .actions ≤ 16)) × ((σ : Sort) → Ordered (parentsOf (tagsOf (st .tags) m σ)))) (sym same-n) ((G .stands .few .subjects, G .stands .few .objects, G .stands .few .actions), is-ordered)
 
-  pub is-composed : (t here : List ℕ) → Stands (policyIn G .frame) n t → ((i : ℕ) → i < 16 → getD here i 0 ≡ getD (st .tags) (160 + i) 0)
-      → Composes (policyIn G) n w t (r .goal .program) here (st .grants) (st .rules) (st .many) (r .goal .limit)
-  unfolding policyOf frameOf
-  is-composed t here s flags =
-      let N = G .stands .names in
-      record {
-        frame = record { stands = s; same = sym (G .stands .rules) };
-        program = G .goal .cells;
-        tables = λ j h k.
-            let i : ℕ = cellAt (r .goal .program) j .number in
-            let g = G .goal .fits j h .table k in
-            let less : i < length (G .declared .tables) = omega (arith, tables-are f (st .starts) (st .ends) (st .tags) c (G .declared) N, g .0) in
-            table-is (G .declared .tables) here (st .grants) w (G .few-grants) i less (flags i (g .1) ∙ names-stand f (st .starts) (st .ends) (st .tags) c (G .declared) N .here i less) (G .stands .grants i less);
-        same-limit = refl;
-      }
+    -- every index is in its range
+    pub is-sized : (t : ℕ) → t ≡ 16384 → 65536 ≤ length w → Sized n₁ (length w) t (r .goal .program) (st .grants) (st .rules) many (r .goal .limit)
+    is-sized t e long =
+        let safe = safe-program (r .goal .program) (G .goal .tree) (G .goal .cells) (G .goal .few-held) in
+        rw (same-n, same-many, e) (record {
+          memory = long;
+          closes = ready;
+          few-grants = G .few-grants;
+          low-limit = G .goal .limited;
+          few-cells = G .goal .few-used;
+          fits = fits;
+          operands = safe .0;
+          few-sets = safe .1;
+        })
+
+    -- the data is that of the policy
+    pub is-composed : (t here : List ℕ)
+        → ((fr : Frame) → Listed fr (tagsOf (st .tags) n₁ subject) (tagsOf (st .tags) n₁ object) (tagsOf (st .tags) n₁ action) (st .marks) → ((σ : Sort) → members fr σ ≡ sizeOf n₁ σ) → Stands fr n₁ t)
+        → ((i : ℕ) → i < 16 → getD here i 0 ≡ getD (st .tags) (160 + i) 0)
+        → Composes (policyIn G) n₁ w t (r .goal .program) here (st .grants) (st .rules) many (r .goal .limit)
+    unfolding policyOf frameOf
+    is-composed t here fill flags =
+        let N = G .stands .names in
+        let filled : (fr : Frame) → Listed fr (tagsOf (st .tags) n subject) (tagsOf (st .tags) n object) (tagsOf (st .tags) n action) (st .marks) → ((σ : Sort) → members fr σ ≡ sizeOf n σ) → Stands fr n t = rw same-n at fill in
+        rw (same-n, same-many) (record {
+          frame = record { stands = filled (policyIn G .frame) is-listed same-counts; same = sym (G .stands .rules) };
+          program = G .goal .cells;
+          tables = λ j h k.
+              let i : ℕ = cellAt (r .goal .program) j .number in
+              let g = G .goal .fits j h .table k in
+              let less : i < length (G .declared .tables) = omega (arith, tables-are f (st .starts) (st .ends) (st .tags) c (G .declared) N, g .0) in
+              table-is (G .declared .tables) here (st .grants) w (G .few-grants) i less (flags i (g .1) ∙ names-stand f (st .starts) (st .ends) (st .tags) c (G .declared) N .here i less) (G .stands .grants i less);
+          same-limit = refl;
+        })

@@ -1,13 +1,9 @@
+-- `running::run_policy` meets its contract: an accepted reading is all that a run asks for.
+use mathlib.Core.Path.{_≡_, refl, _∙_}
+use Rattle.running.proofs.Whole.{policyIn, can-fill, is-sized, is-composed}
 use borrow.Author.Needs.{needs}
 use Rattle.running.proofs.run_policy.Statement.{statement}
 use Rattle.running.proofs.run_policy.Tie as tie
-use Rattle.running.proofs.run_policy.Reads as reads
-use Rattle.running.proofs.run_policy.Lts as lts
-use Rattle.composer.proofs.run.Reads as run-reads
-use Rattle.running.proofs.counts_of.Reads as counts-of-reads
-use Rattle.running.proofs.fill_table.Reads as fill-table-reads
-use Rattle.running.proofs.flags.Reads as flags-reads
-use Rattle.running.proofs.wide.Reads as wide-reads
 
 counts-of-requires : tie.Need-counts-of-requires
 counts-of-requires c κs = search needs
@@ -16,7 +12,7 @@ slice-aggregate-fill-table : tie.Need-slice-aggregate-fill-table
 slice-aggregate-fill-table c = search needs
 
 fill-table-requires : tie.Need-fill-table-requires
-fill-table-requires c κs = ?
+fill-table-requires c κs = let a = c .before .before .before .before .before .before .before .before .before .args in let G = c .before .before .before .before .before .before .before .before .before .pre .1 .good in ((refl, G .stands .sizes .tags, G .stands .sizes .marks), can-fill (c .before .before .before .before .before .before .before .before .before .pre .1 .file) (a .w .now) (a .t2) G (c .before .before .before .before .before .before .counts-of .result) (c .before .before .before .before .before .before .counts-of .ensures) (a .t2 .state .many) refl)
 
 flags-requires : tie.Need-flags-requires
 flags-requires c κs = search needs
@@ -31,13 +27,13 @@ wide-requires : tie.Need-wide-requires
 wide-requires c κs = search needs
 
 run-requires : tie.Need-run-requires
-run-requires c κs = ?
+run-requires c κs = let a = c .before .before .before .before .before .before .before .before .before .before .before .before .before .before .before .before .before .before .before .before .args in is-sized (c .before .before .before .before .before .before .before .before .before .before .before .before .before .before .before .before .before .before .before .before .pre .1 .file) (a .w .now) (a .t2) (c .before .before .before .before .before .before .before .before .before .before .before .before .before .before .before .before .before .before .before .before .pre .1 .good) (c .before .before .before .before .before .before .before .before .before .before .before .before .before .before .before .before .before .counts-of .result) (c .before .before .before .before .before .before .before .before .before .before .before .before .before .before .before .before .before .counts-of .ensures) (c .wide .result) (c .wide .ensures .0) _ (c .before .before .before .before .before .before .before .before .before .before .fill-table .kept .0) (c .before .before .before .before .before .before .before .before .before .before .before .before .before .before .before .before .before .before .before .before .pre .0)
 
 same-length : tie.Need-same-length
 same-length c = search needs
 
 returns : tie.Need-returns
-returns c = ?
+returns c = let a = c .before .before .before .before .before .before .before .before .before .before .before .before .before .before .before .before .before .before .before .before .before .before .before .args in λ f G. c .before .before .run .ensures (policyIn G) (is-composed f (a .w .now) (a .t2) G (c .before .before .before .before .before .before .before .before .before .before .before .before .before .before .before .before .before .before .before .before .counts-of .result) (c .before .before .before .before .before .before .before .before .before .before .before .before .before .before .before .before .before .before .before .before .counts-of .ensures) (c .before .before .before .wide .result) (c .before .before .before .wide .ensures .0) (c .before .before .before .before .before .before .before .before .before .before .before .before .before .fill-table .last .0) (c .before .before .before .before .before .before .before .before .flags .result) (c .before .before .before .before .before .before .before .before .before .before .before .before .before .fill-table .ensures) (c .before .before .before .before .before .before .before .before .flags .ensures))
 
 pub run-policy-spec : {M : Type 1} → statement M
 run-policy-spec =
