@@ -63,7 +63,7 @@ module _ (f w : List ℕ) (r : Reading) (G : ReadGood f (grantsPart w) r) where
   is-ordered : (σ : Sort) → Ordered (parentsOf (tagsOf (st .tags) n σ))
   is-ordered σ = subst Ordered (same-parents σ) (sane .is-ordered σ)
 
-  same-counts : (σ : Sort) → members (policyIn G .frame) σ ≡ sizeOf n σ
+  pub same-counts : (σ : Sort) → members (policyIn G .frame) σ ≡ sizeOf n σ
   unfolding count
   same-counts σ = sane .counted σ ∙ count-is f (st .starts) (st .ends) (st .tags) c (G .declared) (G .stands .names) σ ∙ sym (size-is c σ)
 
