@@ -6,7 +6,7 @@ use native.Mathlib.Omega.{arith}
 use lib.ListN.{length, getD, take}
 use Rattle.algebra.specs.Sort.{Sort, subject, object, action}
 use Rattle.algebra.specs.Order.{Ordered}
-use Rattle.algebra.specs.Policy.{Frame, Policy, parents, members}
+use Rattle.algebra.specs.Policy.{Frame, Policy, parents, members, accesses}
 use Rattle.algebra.specs.Stored.{storedSort, storedRule}
 use Rattle.algebra.specs.StoredFrame.{sizeOf, total, parentsOf, Stands}
 use Rattle.algebra.specs.StoredFrame as Frames
@@ -84,13 +84,11 @@ module _ (f w : List ℕ) (r : Reading) (G : ReadGood f (grantsPart w) r) where
 
   -- ---- what a run asks for
 
-  sized : Frames.Sized n
-  sized =
-      record {
-        some = λ σ. omega (arith, same-counts σ, sane .some-of-each σ);
-        most = most;
-        few = rw (same-counts subject, same-counts object, same-counts action) at (sane .few-accesses);
-      }
+  pub accesses-are : accesses (policyIn G .frame) ≡ total n
+  accesses-are = rw (same-counts subject, same-counts object, same-counts action)
+
+  pub sized : Frames.Sized n
+  sized = record { some = λ σ. omega (arith, same-counts σ, sane .some-of-each σ); most = most; few = subst (λ (k : ℕ). k ≤ 4096) accesses-are (sane .few-accesses) }
 
   ready : Ready n (total n) 16384 (st .rules) (st .many)
   ready =
