@@ -1,15 +1,12 @@
 -- The rules of an accepted file keep every number in its range.
-use mathlib.Core.Path.{_≡_, refl, sym, ap, subst, _∙_}
-use mathlib.Core.Bool.{false}
-use mathlib.Core.List.{List, [], _∷_, _++_, map, List·Memᴰ, List·Memᴰ·head, List·Memᴰ·tail, Memᴰ·append-left, Memᴰ·append-right, Memᴰ·map}
-use Prim.Native.Nat.{ℕ, zero, suc, _+_, _-_, _≤_, _<_}
+use mathlib.Core.Path.{_≡_, refl, subst}
+use mathlib.Core.List.{List, [], _∷_, _++_, List·Memᴰ, List·Memᴰ·head, List·Memᴰ·tail, Memᴰ·append-left, Memᴰ·append-right, Memᴰ·map}
+use Prim.Native.Nat.{ℕ, zero, suc, _≤_, _<_}
 use native.Mathlib.Decide.{ℕ-discrete}
 use native.Mathlib.Omega.{arith}
 use lib.ListN.{length, getD, take}
 use lib.Seq.{getD-take, length-take-le}
 use Rattle.algebra.specs.Sort.{Sort, subject, object, action}
-use Rattle.algebra.specs.Lists.{gather}
-use Rattle.algebra.specs.Policy.{Atom}
 use Rattle.algebra.specs.Stored.{storedTerm, storedSort, storedTriple, storedAtom, storedRule, noAtom}
 use Rattle.algebra.specs.StoredFrame.{sizeOf}
 use Rattle.algebra.specs.declared.StoredAtom.{StoredAtom}
@@ -18,8 +15,8 @@ use Rattle.algebra.proofs.Lists.{mem-gather}
 use Rattle.closure.specs.Stored.{Sits, EachOfGrant, Each, SitsRule}
 use Rattle.expressions.specs.Entries.{memberCount}
 use Rattle.expressions.specs.declared.NameCounts.{NameCounts}
-use Rattle.reader.specs.Rows.{Placed, placed, placedTriple, placedAtom, placedLast, clash}
-use Rattle.state.specs.RuleJudged.{TermFits, AtomFits}
+use Rattle.reader.specs.Rows.{Placed, placed, placedTriple, placedAtom, placedLast}
+use Rattle.state.specs.RuleJudged.{TermFits}
 use Rattle.state.specs.Standing.{RuleWithin}
 use Rattle.state.proofs.Sorts.{stored-variable, grant-is, mark-is, order-is}
 use Rattle.running.specs.Runs.{countsOf}

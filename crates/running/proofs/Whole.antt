@@ -1,28 +1,24 @@
 -- An accepted reading is all that a run asks for, and the run is that of the file's policy.
-use mathlib.Core.Path.{_≡_, refl, sym, ap, subst, _∙_}
-use mathlib.Core.List.{List, map}
+use mathlib.Core.Path.{_≡_, refl, sym, subst, _∙_}
+use mathlib.Core.List.{List}
 use Prim.Native.Nat.{ℕ, _+_, _*_, _≤_, _<_}
 use native.Mathlib.Omega.{arith}
-use lib.ListN.{length, getD, take}
+use lib.ListN.{length, getD}
 use Rattle.algebra.specs.Sort.{Sort, subject, object, action}
 use Rattle.algebra.specs.Order.{Ordered}
 use Rattle.algebra.specs.Policy.{Frame, Policy, parents, members, accesses}
-use Rattle.algebra.specs.Stored.{storedSort, storedRule}
+use Rattle.algebra.specs.Stored.{storedSort}
 use Rattle.algebra.specs.StoredFrame.{sizeOf, total, parentsOf, Stands}
 use Rattle.algebra.specs.StoredFrame as Frames
 use Rattle.algebra.specs.declared.Counts.{Counts}
-use Rattle.algebra.specs.declared.StoredRule.{StoredRule}
-use Rattle.closure.specs.Stored.{Ready, Stored}
+use Rattle.closure.specs.Stored.{Ready}
 use Rattle.expressions.specs.Entries.{memberBase, memberCount}
 use Rattle.expressions.specs.declared.NameCounts.{NameCounts}
-use Rattle.expressions.specs.declared.Program.{Program}
 use Rattle.composer.specs.Compose.{Fits, Sized, Composes, Listed, cellAt}
 use Rattle.composer.proofs.Whole.{safe-program}
-use Rattle.reader.specs.Declarations.{membersOf, count}
-use Rattle.reader.specs.File.{Accepted, policyOf, frameOf}
+use Rattle.reader.specs.Declarations.{count}
+use Rattle.reader.specs.File.{policyOf, frameOf}
 use Rattle.reader.proofs.Members.{SaneFile, file-sane}
-use Rattle.state.specs.Standing as Standing
-use Rattle.state.specs.Goals.{CellFits}
 use Rattle.state.specs.declared.State.{State}
 use Rattle.state.proofs.NameTables.{count-is, tables-are}
 use Rattle.state.proofs.Lines.{names-stand}
