@@ -28,7 +28,10 @@ module _ (f starts ends tags : List ℕ) (c : NameCounts) (few : Few c) (d : Dec
 
   within-fits : (x : Cell) → CellWithin (lookup d) x → CellFits c x
   within-fits x h = record {
-    table = λ z. let l = number-lt table (x .number) (h .of-table z) in omega arith;
+    table = λ z.
+        let l = number-lt table (x .number) (h .of-table z) in
+        let k = few .tables in
+        (l, omega arith);
     member = λ z. let y = h .of-member z in (y .0, y .1, y .2, number-lt (member (storedSort (x .sort))) (x .number) (y .3));
     predicate = λ z.
         let y = h .of-predicate z in
@@ -37,14 +40,5 @@ module _ (f starts ends tags : List ℕ) (c : NameCounts) (few : Few c) (d : Dec
   }
 
 module _ (f w : List ℕ) (st : State) (d : Declared) (limit : ℕ) (t : List ℕ) (p : Program) (G : GoalGood d limit t p) where
-  -- from what stands before the E line
   pub goal-cells : Stands f w st d → (j : ℕ) → j < p .used → CellFits (st .counts) (getD (p .cells) j (cell 0 0 0 0))
   goal-cells S j l = within-fits f (st .starts) (st .ends) (st .tags) (st .counts) (S .few) d (S .names) _ (G .within j l)
-
-  -- and from what stands after it
-  pub ended-cells : Stands f w st (add d (expressionLine limit t)) → (j : ℕ) → j < p .used → CellFits (st .counts) (getD (p .cells) j (cell 0 0 0 0))
-  unfolding add
-  ended-cells S j l = within-fits f (st .starts) (st .ends) (st .tags) (st .counts) (S .few) d names _ (G .within j l)
-    where
-      names : Names f (st .starts) (st .ends) (st .tags) (st .counts) d
-      names = record { members = S .names .members; predicates = S .names .predicates; tables = S .names .tables; sets = S .names .sets }

@@ -40,7 +40,7 @@ pub record GoalGood (d : Declared) (limit : ℕ) (t : List ℕ) (p : Program) : 
 
 -- a cell whose numbers are in their ranges, for so many names
 pub record CellFits (c : NameCounts) (x : Cell) : Type 0 where
-  pub table : x .kind ≡ 0 → x .number < 16
+  pub table : x .kind ≡ 0 → (x .number < c .tables) × (x .number < 16)
   pub member : x .kind ≡ 5 → (1 ≤ x .op) × (x .op ≤ 5) × (x .sort ≤ 2) × (x .number < memberCount c (storedSort (x .sort)))
   pub predicate : x .kind ≡ 6 → (x .sort ≤ 2) × (x .number < 16)
 
