@@ -1,2 +1,4 @@
 -- The laws behind the proofs.
 pub mod Checks
+pub mod Handing
+pub mod Numbers
