@@ -6,3 +6,4 @@ pub mod Lent
 pub mod AcceptedFile
 pub mod Composing
 pub mod Asking
+pub mod Deciding
