@@ -31,7 +31,7 @@ use Rattle.running.specs.Runs.{grantsPart, countsOf}
 use Rattle.running.proofs.Whole.{same-counts}
 use Rattle.engine.specs.Calls as Calls
 use Rattle.engine.specs.Calls.{decide, decided, answered, undecidedBy}
-use Rattle.snowdell.specs.Returned.{decidedOf, noAnswer, askedOf}
+use Rattle.snowdell.specs.Returned.{decidedOf, noAnswer, askedOf, askedIn}
 use Rattle.snowdell.specs.declared.Decided.{Decided}
 use Rattle.snowdell.specs.declared.Asked.{Asked}
 use Rattle.snowdell.specs.declared.Asked.the-variants.{Access, Unknown}
@@ -107,8 +107,7 @@ module _ (f s o a m : List ℕ) where
           subst (λ (k : ℕ). i < k) (count-is f (q .state .starts) (q .state .ends) (q .state .tags) c (W .declared) (W .stands .names) σ)
           (position-lt _ (membersOf (W .declared .members) σ) i e)
 
-      module _ (x : Asked)
-          (is : x ≡ askedOf c (lookupIn f (q .state .starts) (q .state .ends) (q .state .tags) c (member subject) s) (lookupIn f (q .state .starts) (q .state .ends) (q .state .tags) c (member object) o) (lookupIn f (q .state .starts) (q .state .ends) (q .state .tags) c (member action) a)) where
+      module _ (x : Asked) (is : x ≡ askedIn f (q .state) s o a) where
         asked-is : x ≡ askedOf c (at subject s) (at object o) (at action a)
         asked-is = is ∙ rw (found-at subject s, found-at object o, found-at action a)
 

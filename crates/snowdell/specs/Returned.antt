@@ -2,7 +2,11 @@
 use mathlib.Core.List.{List}
 use mathlib.Core.Option.{Option, none, some}
 use Prim.Native.Nat.{ℕ}
+use Rattle.algebra.specs.Sort.{subject, object, action}
 use Rattle.algebra.specs.Policy.{number}
+use Rattle.grammar.specs.Names.{member}
+use Rattle.expressions.specs.Entries.{lookupIn}
+use Rattle.state.specs.declared.State.{State}
 use Rattle.expressions.specs.declared.NameCounts.{NameCounts}
 use Rattle.engine.specs.Calls as Calls
 use Rattle.snowdell.specs.declared.Checked.{Checked}
@@ -46,3 +50,9 @@ askedOf n none o a = Unknown 1
 askedOf n (some s) none a = Unknown 2
 askedOf n (some s) (some o) none = Unknown 3
 askedOf n (some s) (some o) (some a) = Access (number (n .objects) (n .actions) s o a)
+
+-- the three names looked up in the state of a file's reading
+abbrev pub askedIn : List ℕ → State → List ℕ → List ℕ → List ℕ → Asked
+askedIn f st s o a =
+    askedOf (st .counts) (lookupIn f (st .starts) (st .ends) (st .tags) (st .counts) (member subject) s)
+    (lookupIn f (st .starts) (st .ends) (st .tags) (st .counts) (member object) o) (lookupIn f (st .starts) (st .ends) (st .tags) (st .counts) (member action) a)

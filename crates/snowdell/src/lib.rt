@@ -17,6 +17,7 @@ use running::run_policy;
 use sets::clear;
 use sets::copy;
 use sets::count;
+use state::State;
 ghost use mathlib.Core.Path.{_≡_};
 ghost use mathlib.Core.List.{List};
 ghost use Prim.Native.Nat.{ℕ, _+_, _*_, _≤_, _<_};
@@ -26,7 +27,7 @@ ghost use Rattle.grammar.specs.Names.{member};
 ghost use Rattle.expressions.specs.Entries.{Sound, lookupIn};
 ghost use Rattle.engine.specs.Calls as Calls;
 ghost use Rattle.snowdell.specs.Promised.{Promised, composeSays, decideSays};
-ghost use Rattle.snowdell.specs.Returned.{checkedOf, composedOf, decidedOf, refusal, noAnswer, askedOf};
+ghost use Rattle.snowdell.specs.Returned.{checkedOf, composedOf, decidedOf, refusal, noAnswer, askedOf, askedIn};
 
 // ---- Check
 
@@ -181,6 +182,14 @@ fn ask<'a>(
     Asked::Access(access(Subject(x), Object(y), Action(z), counts_of(n)))
 }
 
+// The same, in a state.
+fn ask_state<'a>(f: &'a [u8], st: State, s: &'a [u8], o: &'a [u8], a: &'a [u8]) -> Asked
+    requires { ⌜ Sound (now f) (st .starts) (st .ends) (st .tags) (st .counts) ⌝ }
+    ensures { λ r. ⌜ r ≡ askedIn (now (f .entry)) st (now (s .entry)) (now (o .entry)) (now (a .entry)) ⌝ }
+{
+    ask(f, &st.starts, &st.ends, &st.tags, st.counts, s, o, a)
+}
+
 pub fn decide<'a>(f: &'a [u8], s: &'a [u8], o: &'a [u8], a: &'a [u8], w: &mut [u8]) -> Decided
     ensures { λ r. ⌜ decidedOf r (now (w .exit)) ≡ Calls.decide (now (f .entry)) (now (s .entry)) (now (o .entry)) (now (a .entry)) (now (w .entry)) ⌝ }
     ensures { λ r. ⌜ Promised (now (f .entry)) (decideSays (now (f .entry)) (now (s .entry)) (now (o .entry)) (now (a .entry)) r) ⌝ }
@@ -193,8 +202,7 @@ pub fn decide<'a>(f: &'a [u8], s: &'a [u8], o: &'a [u8], a: &'a [u8], w: &mut [u
         clear(w);
         return not_decided(r.number, r.line, r.place);
     }
-    let st = r.state;
-    let asked = ask(f, &st.starts, &st.ends, &st.tags, st.counts, s, o, a);
+    let asked = ask_state(f, r.state, s, o, a);
     match asked {
         Asked::Unknown(place) => {
             clear(w);
