@@ -5,6 +5,7 @@
 pub mod closure;
 pub mod compose;
 pub mod corpus;
+pub mod edges;
 pub mod expression;
 pub mod generate;
 pub mod listing;

@@ -7,6 +7,7 @@ use std::path::Path;
 use std::process::ExitCode;
 
 use evaluator::corpus;
+use evaluator::edges;
 use evaluator::generate::{self, Kind};
 use evaluator::reader::MOST_FILE_BYTES;
 
@@ -16,6 +17,8 @@ const USAGE: &str = "usage:
   evaluator decide SUBJECT OBJECT ACTION < FILE
   evaluator generate SEED COUNT sound|damaged|large|mixed DIR
   evaluator corpus DIR
+  evaluator check-folder DIR
+  evaluator edges DIR
 ";
 
 fn main() -> ExitCode {
@@ -45,6 +48,8 @@ fn run(arguments: &[OsString]) -> io::Result<ExitCode> {
             }
         }
         [b"corpus", _] => compare(Path::new(&arguments[1])),
+        [b"check-folder", _] => print(&checked(Path::new(&arguments[1]))?),
+        [b"edges", _] => write_edges(Path::new(&arguments[1])),
         _ => usage(),
     }
 }
@@ -77,6 +82,30 @@ fn write_policies(seed: u64, count: u64, kind: Kind, folder: &Path) -> io::Resul
         let file = generate::policy(seed, index, kind);
         fs::write(folder.join(format!("{index:06}.pol")), file)?;
     }
+    Ok(ExitCode::SUCCESS)
+}
+
+/// A line for each file of a folder, by name: the name and what Check returns.
+fn checked(folder: &Path) -> io::Result<String> {
+    let mut text = String::new();
+    for path in corpus::entries(folder)? {
+        let name = path.file_name().unwrap_or_default().to_string_lossy();
+        text += &format!("{name},{}\n", edges::fields(&fs::read(&path)?));
+    }
+    Ok(text)
+}
+
+/// The program's files: `data/`, their names in `args`, and what it has to print in `stdout`.
+fn write_edges(folder: &Path) -> io::Result<ExitCode> {
+    let data = folder.join("data");
+    fs::create_dir_all(&data)?;
+    let mut names = String::new();
+    for edge in edges::all() {
+        fs::write(data.join(&edge.name), &edge.file)?;
+        names += &format!("{}\n", edge.name);
+    }
+    fs::write(folder.join("args"), names)?;
+    fs::write(folder.join("stdout"), checked(&data)?)?;
     Ok(ExitCode::SUCCESS)
 }
 
