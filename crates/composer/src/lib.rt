@@ -36,7 +36,8 @@ fn wide(x: u8) -> usize
     x as usize
 }
 
-fn accesses(n: Counts) -> usize
+// How many accesses there are.
+pub fn accesses(n: Counts) -> usize
     ensures { λ r. ⌜ r ≡ total n ⌝ }
 {
     wide(n.subjects) * wide(n.objects) * wide(n.actions)

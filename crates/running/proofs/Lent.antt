@@ -1,5 +1,5 @@
 -- For a caller that lends the part of the grants to a reading, and then runs the policy in the whole memory and clears it.
-use mathlib.Core.Path.{_≡_, sym, ap, subst, _∙_}
+use mathlib.Core.Path.{_≡_, sym, ap, _∙_}
 use mathlib.Core.List.{List, _++_}
 use Prim.Native.Nat.{ℕ, _≤_}
 use lib.ListN.{length, take, drop, replicate}
@@ -7,17 +7,10 @@ use lib.Seq.{take-at, drop-at, drop-drop, length-take-le}
 use Rattle.algebra.specs.Bytes.{cleared}
 use Rattle.algebra.specs.Policy.{Policy}
 use Rattle.composer.specs.Compose.{Composed}
-use Rattle.reading.specs.Reading.{ReadGood}
-use Rattle.reading.specs.declared.Reading.{Reading}
-use Rattle.running.specs.Runs.{Runs}
 
 -- what the callee leaves in the m bytes from byte `at` on is that part of the whole
-part-back : (at m : ℕ) (w l rest : List ℕ) → at ≤ length w → length l ≡ m → take m (drop at (take at w ++ (l ++ rest))) ≡ l
+pub part-back : (at m : ℕ) (w l rest : List ℕ) → at ≤ length w → length l ≡ m → take m (drop at (take at w ++ (l ++ rest))) ≡ l
 part-back at m w l rest fits long = ap (take m) (drop-at (take at w) (l ++ rest) at (length-take-le at w fits)) ∙ take-at l rest m long
-
--- a file that is accepted with its grants in the part can be run in the whole
-pub runs-after : (w l rest f : List ℕ) (r : Reading) → 57344 ≤ length w → length l ≡ 8192 → ReadGood f l r → Runs (take 57344 w ++ (l ++ rest)) r
-runs-after w l rest f r fits long G = record { file = f; good = subst (λ (p : List ℕ). ReadGood f p r) (sym (part-back 57344 8192 w l rest fits long)) G }
 
 -- a run leaves the bytes beyond the grants as they were, so that the cleared memory does not show it
 pub cleared-after : (P : Policy) (w₀ w w′ : List ℕ) (rounds : ℕ) → Composed P w rounds w′ → drop 65536 w ≡ drop 65536 w₀ → cleared w′ ≡ cleared w₀

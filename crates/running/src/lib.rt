@@ -23,7 +23,8 @@ fn wide(x: u8) -> usize
     x as usize
 }
 
-fn counts_of(c: NameCounts) -> Counts
+// How many members each sort has.
+pub fn counts_of(c: NameCounts) -> Counts
     ensures { λ r. ⌜ r ≡ countsOf c ⌝ }
 {
     Counts {

@@ -2,3 +2,5 @@
 pub mod Checks
 pub mod Handing
 pub mod Numbers
+pub mod Lent
+pub mod Composing

@@ -3,15 +3,16 @@
 pub mod exports;
 
 use algebra::Action;
-use algebra::Counts;
 use algebra::Object;
 use algebra::Subject;
 use algebra::access;
+use composer::accesses;
 use expressions::Found;
 use expressions::NameCounts;
 use expressions::NameKind;
 use expressions::look;
 use reading::read_policy;
+use running::counts_of;
 use running::run_policy;
 use sets::clear;
 use sets::copy;
@@ -20,8 +21,11 @@ ghost use mathlib.Core.Path.{_≡_};
 ghost use mathlib.Core.List.{List};
 ghost use Prim.Native.Nat.{ℕ, _+_, _*_, _≤_, _<_};
 ghost use lib.ListN.{length, getD};
+ghost use Rattle.algebra.specs.Sort.{subject, object, action};
+ghost use Rattle.grammar.specs.Names.{member};
+ghost use Rattle.expressions.specs.Entries.{Sound, lookupIn};
 ghost use Rattle.engine.specs.Calls as Calls;
-ghost use Rattle.snowdell.specs.Returned.{checkedOf};
+ghost use Rattle.snowdell.specs.Returned.{checkedOf, composedOf, decidedOf, refusal, noAnswer, askedOf};
 
 // ---- Check
 
@@ -58,5 +62,152 @@ pub fn check(f: &[u8]) -> Checked
         subjects: n.subjects,
         objects: n.objects,
         actions: n.actions,
+    }
+}
+
+// ---- Compose
+
+// Number, line and place, all 0 when accepted; how many accesses there are, how many of them are permitted and undecided, and the
+// rounds, all 0 when refused.
+pub struct Composed {
+    pub number: u8,
+    pub line: usize,
+    pub place: usize,
+    pub accesses: usize,
+    pub permits: usize,
+    pub undecided: usize,
+    pub rounds: usize,
+}
+
+fn not_composed(number: u8, line: usize, place: usize) -> Composed
+    ensures { λ r. ⌜ r ≡ refusal number line place ⌝ }
+{
+    Composed {
+        number,
+        line,
+        place,
+        accesses: 0,
+        permits: 0,
+        undecided: 0,
+        rounds: 0,
+    }
+}
+
+pub fn compose(f: &[u8], result: &mut [u8], w: &mut [u8]) -> Composed
+    ensures { λ r. ⌜ composedOf r (now (result .exit)) (now (w .exit)) ≡ Calls.compose (now (f .entry)) (now (result .entry)) (now (w .entry)) ⌝ }
+{
+    if result.len() < 4096 {
+        return not_composed(1, 0, 0);
+    }
+    if w.len() < 65536 {
+        return not_composed(1, 0, 0);
+    }
+    let r = read_policy(f, &mut w[57344..65536]);
+    if r.number != 0 {
+        clear(w);
+        return not_composed(r.number, r.line, r.place);
+    }
+    let n = accesses(counts_of(r.state.counts));
+    let rounds = run_policy(w, r);
+    copy(w, result, n);
+    let permits = count(w, n, 2);
+    let undecided = count(w, n, 1);
+    clear(w);
+    Composed {
+        number: 0,
+        line: 0,
+        place: 0,
+        accesses: n,
+        permits,
+        undecided,
+        rounds,
+    }
+}
+
+// ---- Decide
+
+// Number, line and place, all 0 when accepted; the answer as Compose would write it, and the rounds, both 0 when refused.
+pub struct Decided {
+    pub number: u8,
+    pub line: usize,
+    pub place: usize,
+    pub answer: u8,
+    pub rounds: usize,
+}
+
+fn not_decided(number: u8, line: usize, place: usize) -> Decided
+    ensures { λ r. ⌜ r ≡ noAnswer number line place ⌝ }
+{
+    Decided {
+        number,
+        line,
+        place,
+        answer: 0,
+        rounds: 0,
+    }
+}
+
+// An access that was asked for by its names: its number, or which of the names is not declared.
+pub enum Asked {
+    Access(usize),
+    Unknown(usize),
+}
+
+// Looks up the three names.
+fn ask<'a>(
+    f: &'a [u8],
+    starts: &'a [u16],
+    ends: &'a [u16],
+    tags: &'a [u8],
+    n: NameCounts,
+    s: &'a [u8],
+    o: &'a [u8],
+    a: &'a [u8],
+) -> Asked
+    requires { ⌜ Sound (now f) (now starts) (now ends) (now tags) n ⌝ }
+    ensures { λ r. ⌜ r ≡ askedOf n (lookupIn (now (f .entry)) (now (starts .entry)) (now (ends .entry)) (now (tags .entry)) n (member subject) (now (s .entry))) (lookupIn (now (f .entry)) (now (starts .entry)) (now (ends .entry)) (now (tags .entry)) n (member object) (now (o .entry))) (lookupIn (now (f .entry)) (now (starts .entry)) (now (ends .entry)) (now (tags .entry)) n (member action) (now (a .entry))) ⌝ }
+{
+    let Found::At(x) = look(f, starts, ends, tags, n, NameKind::Member(0), s, 0, s.len()) else {
+        return Asked::Unknown(1);
+    };
+    let Found::At(y) = look(f, starts, ends, tags, n, NameKind::Member(1), o, 0, o.len()) else {
+        return Asked::Unknown(2);
+    };
+    let Found::At(z) = look(f, starts, ends, tags, n, NameKind::Member(2), a, 0, a.len()) else {
+        return Asked::Unknown(3);
+    };
+    Asked::Access(access(Subject(x), Object(y), Action(z), counts_of(n)))
+}
+
+pub fn decide<'a>(f: &'a [u8], s: &'a [u8], o: &'a [u8], a: &'a [u8], w: &mut [u8]) -> Decided
+    ensures { λ r. ⌜ decidedOf r (now (w .exit)) ≡ Calls.decide (now (f .entry)) (now (s .entry)) (now (o .entry)) (now (a .entry)) (now (w .entry)) ⌝ }
+{
+    if w.len() < 65536 {
+        return not_decided(1, 0, 0);
+    }
+    let r = read_policy(f, &mut w[57344..65536]);
+    if r.number != 0 {
+        clear(w);
+        return not_decided(r.number, r.line, r.place);
+    }
+    let st = r.state;
+    let asked = ask(f, &st.starts, &st.ends, &st.tags, st.counts, s, o, a);
+    match asked {
+        Asked::Unknown(place) => {
+            clear(w);
+            not_decided(15, 0, place)
+        }
+        Asked::Access(at) => {
+            let rounds = run_policy(w, r);
+            let answer = w[at];
+            clear(w);
+            Decided {
+                number: 0,
+                line: 0,
+                place: 0,
+                answer,
+                rounds,
+            }
+        }
     }
 }
