@@ -12,30 +12,10 @@ use output::flush;
 use output::number;
 use output::word;
 use snowdell::Checked;
+use snowdell::Composed;
 use snowdell::check;
+use snowdell::compose;
 ghost use Prim.Native.Nat.{_≤_};
-
-struct Composed {
-    number: u8,
-    line: usize,
-    place: usize,
-    accesses: usize,
-    permits: usize,
-    undecided: usize,
-    rounds: usize,
-}
-
-fn compose(f: &[u8], result: &mut [u8], w: &mut [u8]) -> Composed {
-    Composed {
-        number: 0,
-        line: 0,
-        place: 0,
-        accesses: 0,
-        permits: 0,
-        undecided: 0,
-        rounds: 0,
-    }
-}
 
 fn refused(out: &mut [u8; 4096], r: Composed) {
     let mut n = word(out, 0, b"refused");
@@ -78,19 +58,40 @@ fn remainder(x: usize, n: usize) -> usize {
     x % n
 }
 
-// An access that is not denied: the answer's word and the three names. Its number is (s × objects + o) × actions + a.
-fn access(out: &mut [u8; 4096], at: usize, f: &[u8], lines: &[usize; 144], c: Checked, answer: u8, x: usize) -> usize
+// The line of an access that is not denied: the answer's word and the three names. The access's number is (s × objects + o) × actions + a.
+fn access(
+    out: &mut [u8; 4096],
+    at: usize,
+    f: &[u8],
+    lines: &[usize; 144],
+    c: Checked,
+    answer: u8,
+    x: usize,
+) -> usize
     requires { ⌜ at ≤ 4096 ⌝ }
     ensures { λ r. ⌜ r ≤ 4096 ⌝ }
 {
+    if answer == 0 {
+        return at;
+    }
     let subjects = wide(c.subjects);
     let objects = wide(c.objects);
     let actions = wide(c.actions);
     let pair = quotient(x, actions);
     let mut n = answered(out, at, answer);
     n = name(out, n, f, line_at(lines, 0, quotient(pair, objects)));
-    n = name(out, n, f, line_at(lines, subjects, remainder(pair, objects)));
-    n = name(out, n, f, line_at(lines, subjects + objects, remainder(x, actions)));
+    n = name(
+        out,
+        n,
+        f,
+        line_at(lines, subjects, remainder(pair, objects)),
+    );
+    n = name(
+        out,
+        n,
+        f,
+        line_at(lines, subjects + objects, remainder(x, actions)),
+    );
     byte(out, n, b'\n')
 }
 
@@ -113,10 +114,7 @@ fn accesses(out: &mut [u8; 4096], at: usize, f: &[u8], result: &[u8; 4096]) -> u
     let lines = starts(f);
     let mut n = at;
     for x in 0..4096 {
-        let answer = result[x];
-        if answer != 0 {
-            n = access(out, n, f, &lines, c, answer, x);
-        }
+        n = access(out, n, f, &lines, c, result[x], x);
     }
     n
 }

@@ -2,17 +2,29 @@
 use crate::output::byte;
 ghost use Prim.Native.Nat.{_≤_};
 
+// Notes that a line begins at `i` where the byte before it closes one; answers the number of the line.
+fn noted(lines: &mut [usize; 144], line: usize, before: u8, i: usize) -> usize
+    requires { ⌜ line ≤ 143 ⌝ }
+    ensures { λ r. ⌜ r ≤ 143 ⌝ }
+{
+    if before != b'\n' {
+        return line;
+    }
+    if line == 143 {
+        return line;
+    }
+    lines[line + 1] = i;
+    line + 1
+}
+
 // Where each of the first 144 lines begins.
 pub fn starts(f: &[u8]) -> [usize; 144] {
-    let mut at = [0usize; 144];
+    let mut lines = [0usize; 144];
     let mut line = 0;
     for i in 0..f.len() {
-        if f[i] == b'\n' && line < 143 {
-            line += 1;
-            at[line] = i + 1;
-        }
+        line = noted(&mut lines, line, f[i], i + 1);
     }
-    at
+    lines
 }
 
 // Where the i-th line from `first` on begins.

@@ -2,11 +2,15 @@
 use libc::STDOUT_FILENO;
 ghost use Prim.Native.Nat.{_≤_};
 
-// Writes out the first `at` bytes.
-pub fn flush(out: &[u8], at: usize) {
-    if at <= out.len() {
-        io::write_all(STDOUT_FILENO, &out[..at]);
+fn write_first(text: &[u8], n: usize) {
+    if n <= text.len() {
+        io::write_all(STDOUT_FILENO, &text[..n]);
     }
+}
+
+// Writes out the bytes that are used.
+pub fn flush(out: &[u8; 4096], at: usize) {
+    write_first(out, at);
 }
 
 // One byte more; a full buffer is written out first.

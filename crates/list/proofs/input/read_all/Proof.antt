@@ -3,7 +3,7 @@ use Prim.Native.Nat.{_-_, _≤_}
 use mathlib.Core.Path.{_≡_}
 use native.Mathlib.Omega.{arith}
 use borrow.Author.Needs.{needs}
-use lib.ListN.{length}
+use lib.ListN.{length, length-take}
 use Rattle.list.proofs.input.read_all.Statement.{statement}
 use Rattle.list.proofs.input.read_all.Tie as tie
 
@@ -59,13 +59,13 @@ same-length-2 : tie.Need-same-length-2 Inv-loop μ-loop
 same-length-2 c = search needs
 
 returns-2 : tie.Need-returns-2 Inv-loop μ-loop
-returns-2 c = search needs
+returns-2 c = (omega arith, simp length-take (omega arith))
 
 same-length-3 : tie.Need-same-length-3 Inv-loop μ-loop
 same-length-3 c = search needs
 
 returns-3 : tie.Need-returns-3 Inv-loop μ-loop
-returns-3 c = search needs
+returns-3 c = (omega arith, simp length-take (omega arith))
 
 pub read-all-spec : {M : Type 1} → statement M
 read-all-spec = tie.close (tie.spec Inv-loop μ-loop loop-holds sub-read part-read-start part-read-end read-requires same-length returns sub-count part-count-start part-count-end count-requires add-done loop-less loop-again same-length-2 returns-2 same-length-3 returns-3)

@@ -8,28 +8,22 @@ use Rattle.list.proofs.members.starts.Statement.{statement}
 use Rattle.list.proofs.members.starts.Tie as tie
 
 abbrev Inv-loop : tie.InvT-loop
-Inv-loop f at₀ line₀ i₀ i-end at line i = (line ≤ 143) × (length at ≡ 144)
+Inv-loop f lines₀ line₀ i₀ i-end lines line i = line ≤ 143
 
 abbrev μ-loop : tie.MeasureT-loop
-μ-loop f at₀ line₀ i₀ i-end at line i = i-end - i
+μ-loop f lines₀ line₀ i₀ i-end lines line i = i-end - i
 
 loop-holds : tie.Need-loop-holds Inv-loop μ-loop
 loop-holds c = search needs
 
-shared-slice-read-if1 : tie.Need-shared-slice-read-if1 Inv-loop μ-loop
-shared-slice-read-if1 c = search needs
+shared-slice-read-noted : tie.Need-shared-slice-read-noted Inv-loop μ-loop
+shared-slice-read-noted c = search needs
 
-add-line : tie.Need-add-line Inv-loop μ-loop
-add-line c = search needs
+add-noted : tie.Need-add-noted Inv-loop μ-loop
+add-noted c = search needs
 
-add-at : tie.Need-add-at Inv-loop μ-loop
-add-at c = search needs
-
-mul-at : tie.Need-mul-at Inv-loop μ-loop
-mul-at c = search needs
-
-array-write-at : tie.Need-array-write-at Inv-loop μ-loop
-array-write-at c = search needs
+noted-requires : tie.Need-noted-requires Inv-loop μ-loop
+noted-requires c κs = search needs
 
 add-i : tie.Need-add-i Inv-loop μ-loop
 add-i c = search needs
@@ -44,4 +38,4 @@ returns : tie.Need-returns Inv-loop μ-loop
 returns c = search needs
 
 pub starts-spec : {M : Type 1} → statement M
-starts-spec = tie.close (tie.spec Inv-loop μ-loop loop-holds shared-slice-read-if1 add-line add-at mul-at array-write-at add-i loop-less loop-again returns)
+starts-spec = tie.close (tie.spec Inv-loop μ-loop loop-holds shared-slice-read-noted add-noted noted-requires add-i loop-less loop-again returns)

@@ -1,9 +1,9 @@
--- `list::output::flush` is safe.
+-- `list::output::write_first` is safe.
 use native.Mathlib.Omega.{arith}
 use lib.ListN.{length-take}
 use borrow.Author.Needs.{needs}
-use Rattle.list.proofs.output.flush.Statement.{statement}
-use Rattle.list.proofs.output.flush.Tie as tie
+use Rattle.list.proofs.output.write_first.Statement.{statement}
+use Rattle.list.proofs.output.write_first.Tie as tie
 
 slice-aggregate-write-all : tie.Need-slice-aggregate-write-all
 slice-aggregate-write-all c = simp length-take (omega arith)
@@ -17,5 +17,5 @@ returns c = search needs
 returns-2 : tie.Need-returns-2
 returns-2 c = search needs
 
-pub flush-spec : {M : Type 1} → statement M
-flush-spec = tie.close (tie.spec slice-aggregate-write-all write-all-requires returns returns-2)
+pub write-first-spec : {M : Type 1} → statement M
+write-first-spec = tie.close (tie.spec slice-aggregate-write-all write-all-requires returns returns-2)
