@@ -4,26 +4,24 @@ use mathlib.Core.Bool.{Bool, true, false, _&&_}
 use mathlib.Core.List.{List, _++_}
 use Prim.Native.Nat.{ℕ, _+_, _*_, _≤_, _<_}
 use native.Mathlib.Omega.{arith}
-use lib.ListN.{length, take, drop}
+use lib.ListN.{length, take}
 use lib.Dec.{leb}
 use borrow.Author.Tests.{le-leb, lt-leb}
 use borrow.Rule.Slice.PartMut.{midOf, putMid}
 use Rattle.algebra.specs.Bytes.{cleared, written, tally}
-use Rattle.algebra.specs.Policy.{Policy, accesses, bytes, policyRounds}
+use Rattle.algebra.specs.Policy.{accesses}
 use Rattle.algebra.specs.StoredFrame.{total}
-use Rattle.algebra.specs.StoredFrame as Frames
 use Rattle.composer.specs.Compose as Compose
 use Rattle.reader.specs.File.{refused, accepted, readFile}
 use Rattle.reading.specs.Reading.{ReadGood}
 use Rattle.reading.specs.declared.Reading.{Reading}
-use Rattle.running.specs.Runs.{Runs, grantsPart, countsOf}
-use Rattle.running.proofs.Lent.{part-back, cleared-after}
-use Rattle.running.proofs.Whole.{policyIn, accesses-are, sized}
+use Rattle.running.specs.Runs.{countsOf}
 use Rattle.engine.specs.Calls as Calls
 use Rattle.engine.specs.Calls.{compose, composed, composition, unchanged}
 use Rattle.snowdell.specs.Returned.{composedOf, refusal}
 use Rattle.snowdell.specs.declared.Composed.{Composed}
-use Rattle.snowdell.proofs.Lent.{lent-long, lent-fits, after-fits, lent-beyond, lent-cleared}
+use Rattle.snowdell.proofs.Lent.{lent-cleared}
+use Rattle.snowdell.proofs.AcceptedFile.{policy, in-whole, total-low, total-is, run-cleared, answers}
 
 -- ---- row 1, and a file that is not accepted
 
@@ -62,41 +60,20 @@ module _ (f r m : List ℕ) where
 
     -- ---- an accepted file
 
-    module _ (l : List ℕ) (kept : length l ≡ length (midOf 57344 8192 m)) (q : Reading) (G : ReadGood f l q) where
-      abbrev w : List ℕ
-      w = putMid 57344 8192 m l
+    module _ (l : List ℕ) (kept : length l ≡ length (midOf 57344 8192 m)) (q : Reading) (G : ReadGood f l q) (n : ℕ) (is-count : n ≡ total (countsOf (q .state .counts))) where
+      pub few : n ≤ 4096
+      few = subst (λ (k : ℕ). k ≤ 4096) (sym is-count) (total-low f m l fits kept q G)
 
-      pub in-whole : ReadGood f (grantsPart w) q
-      in-whole = subst (λ (p : List ℕ). ReadGood f p q) (sym (part-back 57344 8192 m l (drop 8192 (drop 57344 m)) (omega arith) (lent-long m l fits kept))) G
+      pub in-result : n ≤ length r
+      in-result = let h = few in omega arith
 
-      pub can-run : (65536 ≤ length w) × Runs w q
-      can-run = (lent-fits m l fits kept, record { file = f; good = in-whole })
-
-      abbrev P : Policy
-      P = policyIn in-whole
-
-      module _ (n : ℕ) (is-count : n ≡ total (countsOf (q .state .counts))) where
-        pub few : n ≤ 4096
-        few = let h = sized f w q in-whole .few in omega arith
-
-        pub in-result : n ≤ length r
-        in-result = let h = few in omega arith
-
-        pub in-memory : (m′ : List ℕ) → length m′ ≡ length w → n ≤ length m′
-        in-memory m′ e = let h = few in let k = after-fits m l fits kept m′ e in omega arith
-
-        pub all : n ≡ accesses (P .frame)
-        all = is-count ∙ sym (accesses-are f w q in-whole)
-
-        module _ (rounds : ℕ) (m′ : List ℕ) (C : Compose.Composed P w rounds m′) where
-          pub answers : take n m′ ≡ bytes P
-          answers = ap (λ (k : ℕ). take k m′) all ∙ C .answers
-
-          pub run-cleared : cleared m′ ≡ cleared m
-          run-cleared = cleared-after P m w m′ rounds C (lent-beyond m l fits kept)
-
-          pub read-all : (permits undecided : ℕ) (r′ m″ : List ℕ) → r′ ≡ written (take n m′) r → permits ≡ tally 2 (take n m′) → undecided ≡ tally 1 (take n m′) → m″ ≡ cleared m′
-              → composedOf (record { number = 0; line = 0; place = 0; accesses = n; permits = permits; undecided = undecided; rounds = rounds }) r′ m″ ≡ compose f r m
-          unfolding composed composition
-          read-all permits undecided r′ m″ er ep eu em =
-              rw (er, ep, eu, em, answers, run-cleared, all, C .all) (sym (reads ∙ ap (λ o. composed o r m) (in-whole .outcome)))
+      pub read-all : (rounds : ℕ) (m′ : List ℕ) → Compose.Composed (policy f m l fits kept q G) (putMid 57344 8192 m l) rounds m′
+          → (permits undecided : ℕ) (r′ m″ : List ℕ) → r′ ≡ written (take n m′) r → permits ≡ tally 2 (take n m′) → undecided ≡ tally 1 (take n m′) → m″ ≡ cleared m′
+          → composedOf (record { number = 0; line = 0; place = 0; accesses = n; permits = permits; undecided = undecided; rounds = rounds }) r′ m″ ≡ compose f r m
+      unfolding composed composition
+      read-all rounds m′ C permits undecided r′ m″ er ep eu em =
+          rw (er, ep, eu, em, answers f m l fits kept q G rounds m′ C n all, run-cleared f m l fits kept q G rounds m′ C, all, C .all)
+          (sym (reads ∙ ap (λ o. composed o r m) (in-whole f m l fits kept q G .outcome)))
+        where
+          all : n ≡ accesses (policy f m l fits kept q G .frame)
+          all = is-count ∙ total-is f m l fits kept q G

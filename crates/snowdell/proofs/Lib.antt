@@ -3,4 +3,7 @@ pub mod Checks
 pub mod Handing
 pub mod Numbers
 pub mod Lent
+pub mod AcceptedFile
 pub mod Composing
+pub mod Asking
+pub mod Deciding

@@ -1,3 +1,4 @@
+use Rattle.snowdell.proofs.Asking.{subject-at, object-at, action-at, asked-1, asked-2, asked-3, asked-all}
 use borrow.Author.Needs.{needs}
 use Rattle.snowdell.proofs.ask.Statement.{statement}
 use Rattle.snowdell.proofs.ask.Tie as tie
@@ -17,7 +18,7 @@ enum-told : tie.Need-enum-told
 enum-told c = search needs
 
 returns : tie.Need-returns
-returns c = ?
+returns c = asked-1 _ _ _ _ (subject-at _ _ _ _ _ _ _ _ (c .enum-told .given .1) (c .before .before .look .ensures))
 
 look-requires-2 : tie.Need-look-requires-2
 look-requires-2 c κs = search needs
@@ -29,7 +30,7 @@ enum-told-2 : tie.Need-enum-told-2
 enum-told-2 c = search needs
 
 returns-2 : tie.Need-returns-2
-returns-2 c = ?
+returns-2 c = asked-2 _ _ _ _ _ (subject-at _ _ _ _ _ _ _ _ (c .before .before .before .before .x .given .1) (c .before .before .before .before .before .before .look .ensures)) (object-at _ _ _ _ _ _ _ _ (c .enum-told2 .given .1) (c .before .before .look2 .ensures))
 
 look-requires-3 : tie.Need-look-requires-3
 look-requires-3 c κs = search needs
@@ -41,7 +42,7 @@ enum-told-3 : tie.Need-enum-told-3
 enum-told-3 c = search needs
 
 returns-3 : tie.Need-returns-3
-returns-3 c = ?
+returns-3 c = asked-3 _ _ _ _ _ _ (subject-at _ _ _ _ _ _ _ _ (c .before .before .before .before .before .before .before .before .x .given .1) (c .before .before .before .before .before .before .before .before .before .before .look .ensures)) (object-at _ _ _ _ _ _ _ _ (c .before .before .before .before .y .given .1) (c .before .before .before .before .before .before .look2 .ensures)) (action-at _ _ _ _ _ _ _ _ (c .enum-told3 .given .1) (c .before .before .look3 .ensures))
 
 counts-of-requires : tie.Need-counts-of-requires
 counts-of-requires c κs = search needs
@@ -50,7 +51,7 @@ access-requires : tie.Need-access-requires
 access-requires c κs = search needs
 
 returns-4 : tie.Need-returns-4
-returns-4 c = ?
+returns-4 c = asked-all _ _ _ _ _ _ _ (subject-at _ _ _ _ _ _ _ _ (c .before .before .before .before .before .before .before .before .before .before .before .x .given .1) (c .before .before .before .before .before .before .before .before .before .before .before .before .before .look .ensures)) (object-at _ _ _ _ _ _ _ _ (c .before .before .before .before .before .before .before .y .given .1) (c .before .before .before .before .before .before .before .before .before .look2 .ensures)) (action-at _ _ _ _ _ _ _ _ (c .before .before .before .z .given .1) (c .before .before .before .before .before .look3 .ensures)) _ _ (c .before .counts-of .ensures) (c .access .ensures .0)
 
 pub ask-spec : {M : Type 1} → statement M
 ask-spec =

@@ -1,7 +1,8 @@
 use mathlib.Core.Path.{ap, _∙_}
 use Rattle.algebra.specs.StoredFrame.{total}
 use Rattle.snowdell.proofs.Lent.{lent-length, lent-fits, after-fits}
-use Rattle.snowdell.proofs.Composing.{short-result, short-memory, not-read, in-whole, can-run, in-memory, in-result, read-all}
+use Rattle.snowdell.proofs.AcceptedFile.{in-whole, can-run, in-memory}
+use Rattle.snowdell.proofs.Composing.{short-result, short-memory, not-read, few, in-result, read-all}
 use borrow.Author.Needs.{needs}
 use Rattle.snowdell.proofs.compose.Statement.{statement}
 use Rattle.snowdell.proofs.compose.Tie as tie
@@ -59,16 +60,16 @@ accesses-requires : tie.Need-accesses-requires
 accesses-requires c κs = search needs
 
 run-policy-requires : tie.Need-run-policy-requires
-run-policy-requires c κs = can-run (c .before .before .before .before .before .before .before .before .before .before .before .before .before .before .args .f .now) (c .before .before .before .before .before .before .before .before .before .before .before .before .before .before .args .result .now) (c .before .before .before .before .before .before .before .before .before .before .before .before .before .before .args .w .now) (c .before .before .before .before .before .before .before .before .before .before .if1 .left) (c .before .before .before .before .before .before .before .before .before .if2 .left) (c .before .before .before .before .before .before .before .read-policy .last .1 .0) (c .before .before .before .before .before .before .before .read-policy .kept .1 .0) (c .before .before .before .before .before .before .before .read-policy .result) (c .before .before .before .before .before .before .before .read-policy .ensures .yes (c .before .before .before .if3 .left))
+run-policy-requires c κs = can-run (c .before .before .before .before .before .before .before .before .before .before .before .before .before .before .args .f .now) (c .before .before .before .before .before .before .before .before .before .before .before .before .before .before .args .w .now) (c .before .before .before .before .before .before .before .read-policy .last .1 .0) (c .before .before .before .before .before .before .before .before .before .if2 .left) (c .before .before .before .before .before .before .before .read-policy .kept .1 .0) (c .before .before .before .before .before .before .before .read-policy .result) (c .before .before .before .before .before .before .before .read-policy .ensures .yes (c .before .before .before .if3 .left))
 
 copy-requires : tie.Need-copy-requires
-copy-requires c κs = (in-memory (c .before .before .before .before .before .before .before .before .before .before .before .before .before .before .before .before .before .before .before .args .f .now) (c .before .before .before .before .before .before .before .before .before .before .before .before .before .before .before .before .before .before .before .args .result .now) (c .before .before .before .before .before .before .before .before .before .before .before .before .before .before .before .before .before .before .before .args .w .now) (c .before .before .before .before .before .before .before .before .before .before .before .before .before .before .before .if1 .left) (c .before .before .before .before .before .before .before .before .before .before .before .before .before .before .if2 .left) (c .before .before .before .before .before .before .before .before .before .before .before .before .read-policy .last .1 .0) (c .before .before .before .before .before .before .before .before .before .before .before .before .read-policy .kept .1 .0) (c .before .before .before .before .before .before .before .before .before .before .before .before .read-policy .result) (c .before .before .before .before .before .before .before .before .before .before .before .before .read-policy .ensures .yes (c .before .before .before .before .before .before .before .before .if3 .left)) (c .before .before .before .before .before .before .accesses .result) (c .before .before .before .before .before .before .accesses .ensures ∙ ap total (c .before .before .before .before .before .before .before .counts-of .ensures)) (c .before .before .before .before .run-policy .last .0) (c .before .before .before .before .run-policy .kept .0), in-result (c .before .before .before .before .before .before .before .before .before .before .before .before .before .before .before .before .before .before .before .args .f .now) (c .before .before .before .before .before .before .before .before .before .before .before .before .before .before .before .before .before .before .before .args .result .now) (c .before .before .before .before .before .before .before .before .before .before .before .before .before .before .before .before .before .before .before .args .w .now) (c .before .before .before .before .before .before .before .before .before .before .before .before .before .before .before .if1 .left) (c .before .before .before .before .before .before .before .before .before .before .before .before .before .before .if2 .left) (c .before .before .before .before .before .before .before .before .before .before .before .before .read-policy .last .1 .0) (c .before .before .before .before .before .before .before .before .before .before .before .before .read-policy .kept .1 .0) (c .before .before .before .before .before .before .before .before .before .before .before .before .read-policy .result) (c .before .before .before .before .before .before .before .before .before .before .before .before .read-policy .ensures .yes (c .before .before .before .before .before .before .before .before .if3 .left)) (c .before .before .before .before .before .before .accesses .result) (c .before .before .before .before .before .before .accesses .ensures ∙ ap total (c .before .before .before .before .before .before .before .counts-of .ensures)))
+copy-requires c κs = (in-memory (c .before .before .before .before .before .before .before .before .before .before .before .before .before .before .before .before .before .before .before .args .f .now) (c .before .before .before .before .before .before .before .before .before .before .before .before .before .before .before .before .before .before .before .args .w .now) (c .before .before .before .before .before .before .before .before .before .before .before .before .read-policy .last .1 .0) (c .before .before .before .before .before .before .before .before .before .before .before .before .before .before .if2 .left) (c .before .before .before .before .before .before .before .before .before .before .before .before .read-policy .kept .1 .0) (c .before .before .before .before .before .before .before .before .before .before .before .before .read-policy .result) (c .before .before .before .before .before .before .before .before .before .before .before .before .read-policy .ensures .yes (c .before .before .before .before .before .before .before .before .if3 .left)) _ (few (c .before .before .before .before .before .before .before .before .before .before .before .before .before .before .before .before .before .before .before .args .f .now) (c .before .before .before .before .before .before .before .before .before .before .before .before .before .before .before .before .before .before .before .args .result .now) (c .before .before .before .before .before .before .before .before .before .before .before .before .before .before .before .before .before .before .before .args .w .now) (c .before .before .before .before .before .before .before .before .before .before .before .before .before .before .before .if1 .left) (c .before .before .before .before .before .before .before .before .before .before .before .before .before .before .if2 .left) (c .before .before .before .before .before .before .before .before .before .before .before .before .read-policy .last .1 .0) (c .before .before .before .before .before .before .before .before .before .before .before .before .read-policy .kept .1 .0) (c .before .before .before .before .before .before .before .before .before .before .before .before .read-policy .result) (c .before .before .before .before .before .before .before .before .before .before .before .before .read-policy .ensures .yes (c .before .before .before .before .before .before .before .before .if3 .left)) (c .before .before .before .before .before .before .accesses .result) (c .before .before .before .before .before .before .accesses .ensures ∙ ap total (c .before .before .before .before .before .before .before .counts-of .ensures))) (c .before .before .before .before .run-policy .last .0) (c .before .before .before .before .run-policy .kept .0), in-result (c .before .before .before .before .before .before .before .before .before .before .before .before .before .before .before .before .before .before .before .args .f .now) (c .before .before .before .before .before .before .before .before .before .before .before .before .before .before .before .before .before .before .before .args .result .now) (c .before .before .before .before .before .before .before .before .before .before .before .before .before .before .before .before .before .before .before .args .w .now) (c .before .before .before .before .before .before .before .before .before .before .before .before .before .before .before .if1 .left) (c .before .before .before .before .before .before .before .before .before .before .before .before .before .before .if2 .left) (c .before .before .before .before .before .before .before .before .before .before .before .before .read-policy .last .1 .0) (c .before .before .before .before .before .before .before .before .before .before .before .before .read-policy .kept .1 .0) (c .before .before .before .before .before .before .before .before .before .before .before .before .read-policy .result) (c .before .before .before .before .before .before .before .before .before .before .before .before .read-policy .ensures .yes (c .before .before .before .before .before .before .before .before .if3 .left)) (c .before .before .before .before .before .before .accesses .result) (c .before .before .before .before .before .before .accesses .ensures ∙ ap total (c .before .before .before .before .before .before .before .counts-of .ensures)))
 
 count-requires : tie.Need-count-requires
-count-requires c κs = in-memory (c .before .before .before .before .before .before .before .before .before .before .before .before .before .before .before .before .before .before .before .before .before .before .before .args .f .now) (c .before .before .before .before .before .before .before .before .before .before .before .before .before .before .before .before .before .before .before .before .before .before .before .args .result .now) (c .before .before .before .before .before .before .before .before .before .before .before .before .before .before .before .before .before .before .before .before .before .before .before .args .w .now) (c .before .before .before .before .before .before .before .before .before .before .before .before .before .before .before .before .before .before .before .if1 .left) (c .before .before .before .before .before .before .before .before .before .before .before .before .before .before .before .before .before .before .if2 .left) (c .before .before .before .before .before .before .before .before .before .before .before .before .before .before .before .before .read-policy .last .1 .0) (c .before .before .before .before .before .before .before .before .before .before .before .before .before .before .before .before .read-policy .kept .1 .0) (c .before .before .before .before .before .before .before .before .before .before .before .before .before .before .before .before .read-policy .result) (c .before .before .before .before .before .before .before .before .before .before .before .before .before .before .before .before .read-policy .ensures .yes (c .before .before .before .before .before .before .before .before .before .before .before .before .if3 .left)) (c .before .before .before .before .before .before .before .before .before .before .accesses .result) (c .before .before .before .before .before .before .before .before .before .before .accesses .ensures ∙ ap total (c .before .before .before .before .before .before .before .before .before .before .before .counts-of .ensures)) (c .before .before .before .before .before .before .before .before .run-policy .last .0) (c .before .before .before .before .before .before .before .before .run-policy .kept .0)
+count-requires c κs = in-memory (c .before .before .before .before .before .before .before .before .before .before .before .before .before .before .before .before .before .before .before .before .before .before .before .args .f .now) (c .before .before .before .before .before .before .before .before .before .before .before .before .before .before .before .before .before .before .before .before .before .before .before .args .w .now) (c .before .before .before .before .before .before .before .before .before .before .before .before .before .before .before .before .read-policy .last .1 .0) (c .before .before .before .before .before .before .before .before .before .before .before .before .before .before .before .before .before .before .if2 .left) (c .before .before .before .before .before .before .before .before .before .before .before .before .before .before .before .before .read-policy .kept .1 .0) (c .before .before .before .before .before .before .before .before .before .before .before .before .before .before .before .before .read-policy .result) (c .before .before .before .before .before .before .before .before .before .before .before .before .before .before .before .before .read-policy .ensures .yes (c .before .before .before .before .before .before .before .before .before .before .before .before .if3 .left)) _ (few (c .before .before .before .before .before .before .before .before .before .before .before .before .before .before .before .before .before .before .before .before .before .before .before .args .f .now) (c .before .before .before .before .before .before .before .before .before .before .before .before .before .before .before .before .before .before .before .before .before .before .before .args .result .now) (c .before .before .before .before .before .before .before .before .before .before .before .before .before .before .before .before .before .before .before .before .before .before .before .args .w .now) (c .before .before .before .before .before .before .before .before .before .before .before .before .before .before .before .before .before .before .before .if1 .left) (c .before .before .before .before .before .before .before .before .before .before .before .before .before .before .before .before .before .before .if2 .left) (c .before .before .before .before .before .before .before .before .before .before .before .before .before .before .before .before .read-policy .last .1 .0) (c .before .before .before .before .before .before .before .before .before .before .before .before .before .before .before .before .read-policy .kept .1 .0) (c .before .before .before .before .before .before .before .before .before .before .before .before .before .before .before .before .read-policy .result) (c .before .before .before .before .before .before .before .before .before .before .before .before .before .before .before .before .read-policy .ensures .yes (c .before .before .before .before .before .before .before .before .before .before .before .before .if3 .left)) (c .before .before .before .before .before .before .before .before .before .before .accesses .result) (c .before .before .before .before .before .before .before .before .before .before .accesses .ensures ∙ ap total (c .before .before .before .before .before .before .before .before .before .before .before .counts-of .ensures))) (c .before .before .before .before .before .before .before .before .run-policy .last .0) (c .before .before .before .before .before .before .before .before .run-policy .kept .0)
 
 count-requires-2 : tie.Need-count-requires-2
-count-requires-2 c κs = in-memory (c .before .before .before .before .before .before .before .before .before .before .before .before .before .before .before .before .before .before .before .before .before .before .before .before .before .args .f .now) (c .before .before .before .before .before .before .before .before .before .before .before .before .before .before .before .before .before .before .before .before .before .before .before .before .before .args .result .now) (c .before .before .before .before .before .before .before .before .before .before .before .before .before .before .before .before .before .before .before .before .before .before .before .before .before .args .w .now) (c .before .before .before .before .before .before .before .before .before .before .before .before .before .before .before .before .before .before .before .before .before .if1 .left) (c .before .before .before .before .before .before .before .before .before .before .before .before .before .before .before .before .before .before .before .before .if2 .left) (c .before .before .before .before .before .before .before .before .before .before .before .before .before .before .before .before .before .before .read-policy .last .1 .0) (c .before .before .before .before .before .before .before .before .before .before .before .before .before .before .before .before .before .before .read-policy .kept .1 .0) (c .before .before .before .before .before .before .before .before .before .before .before .before .before .before .before .before .before .before .read-policy .result) (c .before .before .before .before .before .before .before .before .before .before .before .before .before .before .before .before .before .before .read-policy .ensures .yes (c .before .before .before .before .before .before .before .before .before .before .before .before .before .before .if3 .left)) (c .before .before .before .before .before .before .before .before .before .before .before .before .accesses .result) (c .before .before .before .before .before .before .before .before .before .before .before .before .accesses .ensures ∙ ap total (c .before .before .before .before .before .before .before .before .before .before .before .before .before .counts-of .ensures)) (c .before .before .before .before .before .before .before .before .before .before .run-policy .last .0) (c .before .before .before .before .before .before .before .before .before .before .run-policy .kept .0)
+count-requires-2 c κs = in-memory (c .before .before .before .before .before .before .before .before .before .before .before .before .before .before .before .before .before .before .before .before .before .before .before .before .before .args .f .now) (c .before .before .before .before .before .before .before .before .before .before .before .before .before .before .before .before .before .before .before .before .before .before .before .before .before .args .w .now) (c .before .before .before .before .before .before .before .before .before .before .before .before .before .before .before .before .before .before .read-policy .last .1 .0) (c .before .before .before .before .before .before .before .before .before .before .before .before .before .before .before .before .before .before .before .before .if2 .left) (c .before .before .before .before .before .before .before .before .before .before .before .before .before .before .before .before .before .before .read-policy .kept .1 .0) (c .before .before .before .before .before .before .before .before .before .before .before .before .before .before .before .before .before .before .read-policy .result) (c .before .before .before .before .before .before .before .before .before .before .before .before .before .before .before .before .before .before .read-policy .ensures .yes (c .before .before .before .before .before .before .before .before .before .before .before .before .before .before .if3 .left)) _ (few (c .before .before .before .before .before .before .before .before .before .before .before .before .before .before .before .before .before .before .before .before .before .before .before .before .before .args .f .now) (c .before .before .before .before .before .before .before .before .before .before .before .before .before .before .before .before .before .before .before .before .before .before .before .before .before .args .result .now) (c .before .before .before .before .before .before .before .before .before .before .before .before .before .before .before .before .before .before .before .before .before .before .before .before .before .args .w .now) (c .before .before .before .before .before .before .before .before .before .before .before .before .before .before .before .before .before .before .before .before .before .if1 .left) (c .before .before .before .before .before .before .before .before .before .before .before .before .before .before .before .before .before .before .before .before .if2 .left) (c .before .before .before .before .before .before .before .before .before .before .before .before .before .before .before .before .before .before .read-policy .last .1 .0) (c .before .before .before .before .before .before .before .before .before .before .before .before .before .before .before .before .before .before .read-policy .kept .1 .0) (c .before .before .before .before .before .before .before .before .before .before .before .before .before .before .before .before .before .before .read-policy .result) (c .before .before .before .before .before .before .before .before .before .before .before .before .before .before .before .before .before .before .read-policy .ensures .yes (c .before .before .before .before .before .before .before .before .before .before .before .before .before .before .if3 .left)) (c .before .before .before .before .before .before .before .before .before .before .before .before .accesses .result) (c .before .before .before .before .before .before .before .before .before .before .before .before .accesses .ensures ∙ ap total (c .before .before .before .before .before .before .before .before .before .before .before .before .before .counts-of .ensures))) (c .before .before .before .before .before .before .before .before .before .before .run-policy .last .0) (c .before .before .before .before .before .before .before .before .before .before .run-policy .kept .0)
 
 clear-requires-2 : tie.Need-clear-requires-2
 clear-requires-2 c κs = after-fits (c .before .before .before .before .before .before .before .before .before .before .before .before .before .before .before .before .before .before .before .before .before .before .before .before .before .before .before .args .w .now) (c .before .before .before .before .before .before .before .before .before .before .before .before .before .before .before .before .before .before .before .before .read-policy .last .1 .0) (c .before .before .before .before .before .before .before .before .before .before .before .before .before .before .before .before .before .before .before .before .before .before .if2 .left) (c .before .before .before .before .before .before .before .before .before .before .before .before .before .before .before .before .before .before .before .before .read-policy .kept .1 .0) (c .before .before .before .before .before .before .before .before .before .before .before .before .run-policy .last .0) (c .before .before .before .before .before .before .before .before .before .before .before .before .run-policy .kept .0)
@@ -80,7 +81,7 @@ same-length-3 : tie.Need-same-length-3
 same-length-3 c = c .before .before .clear2 .kept .0 ∙ c .before .before .before .before .before .before .before .before .before .before .before .before .before .before .before .run-policy .kept .0 ∙ lent-length (c .before .before .before .before .before .before .before .before .before .before .before .before .before .before .before .before .before .before .before .before .before .before .before .before .before .before .before .before .before .before .args .w .now) (c .before .before .before .before .before .before .before .before .before .before .before .before .before .before .before .before .before .before .before .before .before .before .before .read-policy .last .1 .0) (c .before .before .before .before .before .before .before .before .before .before .before .before .before .before .before .before .before .before .before .before .before .before .before .before .before .if2 .left) (c .before .before .before .before .before .before .before .before .before .before .before .before .before .before .before .before .before .before .before .before .before .before .before .read-policy .kept .1 .0)
 
 returns-4 : tie.Need-returns-4
-returns-4 c = read-all (c .before .before .before .before .before .before .before .before .before .before .before .before .before .before .before .before .before .before .before .before .before .before .before .before .before .before .before .before .before .before .args .f .now) (c .before .before .before .before .before .before .before .before .before .before .before .before .before .before .before .before .before .before .before .before .before .before .before .before .before .before .before .before .before .before .args .result .now) (c .before .before .before .before .before .before .before .before .before .before .before .before .before .before .before .before .before .before .before .before .before .before .before .before .before .before .before .before .before .before .args .w .now) (c .before .before .before .before .before .before .before .before .before .before .before .before .before .before .before .before .before .before .before .before .before .before .before .before .before .before .if1 .left) (c .before .before .before .before .before .before .before .before .before .before .before .before .before .before .before .before .before .before .before .before .before .before .before .before .before .if2 .left) (c .before .before .before .before .before .before .before .before .before .before .before .before .before .before .before .before .before .before .before .before .before .before .before .read-policy .last .1 .0) (c .before .before .before .before .before .before .before .before .before .before .before .before .before .before .before .before .before .before .before .before .before .before .before .read-policy .kept .1 .0) (c .before .before .before .before .before .before .before .before .before .before .before .before .before .before .before .before .before .before .before .before .before .before .before .read-policy .result) (c .before .before .before .before .before .before .before .before .before .before .before .before .before .before .before .before .before .before .before .before .before .before .before .read-policy .ensures .yes (c .before .before .before .before .before .before .before .before .before .before .before .before .before .before .before .before .before .before .before .if3 .left)) (c .before .before .before .before .before .before .before .before .before .before .before .before .before .before .before .before .before .accesses .result) (c .before .before .before .before .before .before .before .before .before .before .before .before .before .before .before .before .before .accesses .ensures ∙ ap total (c .before .before .before .before .before .before .before .before .before .before .before .before .before .before .before .before .before .before .counts-of .ensures)) _ _ (c .before .before .before .before .before .before .before .before .before .before .before .before .before .before .before .run-policy .ensures (c .before .before .before .before .before .before .before .before .before .before .before .before .before .before .before .before .before .before .before .before .before .before .before .before .before .before .before .before .before .before .args .f .now) (in-whole (c .before .before .before .before .before .before .before .before .before .before .before .before .before .before .before .before .before .before .before .before .before .before .before .before .before .before .before .before .before .before .args .f .now) (c .before .before .before .before .before .before .before .before .before .before .before .before .before .before .before .before .before .before .before .before .before .before .before .before .before .before .before .before .before .before .args .result .now) (c .before .before .before .before .before .before .before .before .before .before .before .before .before .before .before .before .before .before .before .before .before .before .before .before .before .before .before .before .before .before .args .w .now) (c .before .before .before .before .before .before .before .before .before .before .before .before .before .before .before .before .before .before .before .before .before .before .before .before .before .before .if1 .left) (c .before .before .before .before .before .before .before .before .before .before .before .before .before .before .before .before .before .before .before .before .before .before .before .before .before .if2 .left) (c .before .before .before .before .before .before .before .before .before .before .before .before .before .before .before .before .before .before .before .before .before .before .before .read-policy .last .1 .0) (c .before .before .before .before .before .before .before .before .before .before .before .before .before .before .before .before .before .before .before .before .before .before .before .read-policy .kept .1 .0) (c .before .before .before .before .before .before .before .before .before .before .before .before .before .before .before .before .before .before .before .before .before .before .before .read-policy .result) (c .before .before .before .before .before .before .before .before .before .before .before .before .before .before .before .before .before .before .before .before .before .before .before .read-policy .ensures .yes (c .before .before .before .before .before .before .before .before .before .before .before .before .before .before .before .before .before .before .before .if3 .left)))) _ _ _ _ (c .before .before .before .before .before .before .before .before .before .before .copy .ensures) (c .before .before .before .before .before .before .count .ensures) (c .before .before .before .before .count2 .ensures) (c .before .before .clear2 .ensures)
+returns-4 c = read-all (c .before .before .before .before .before .before .before .before .before .before .before .before .before .before .before .before .before .before .before .before .before .before .before .before .before .before .before .before .before .before .args .f .now) (c .before .before .before .before .before .before .before .before .before .before .before .before .before .before .before .before .before .before .before .before .before .before .before .before .before .before .before .before .before .before .args .result .now) (c .before .before .before .before .before .before .before .before .before .before .before .before .before .before .before .before .before .before .before .before .before .before .before .before .before .before .before .before .before .before .args .w .now) (c .before .before .before .before .before .before .before .before .before .before .before .before .before .before .before .before .before .before .before .before .before .before .before .before .before .before .if1 .left) (c .before .before .before .before .before .before .before .before .before .before .before .before .before .before .before .before .before .before .before .before .before .before .before .before .before .if2 .left) (c .before .before .before .before .before .before .before .before .before .before .before .before .before .before .before .before .before .before .before .before .before .before .before .read-policy .last .1 .0) (c .before .before .before .before .before .before .before .before .before .before .before .before .before .before .before .before .before .before .before .before .before .before .before .read-policy .kept .1 .0) (c .before .before .before .before .before .before .before .before .before .before .before .before .before .before .before .before .before .before .before .before .before .before .before .read-policy .result) (c .before .before .before .before .before .before .before .before .before .before .before .before .before .before .before .before .before .before .before .before .before .before .before .read-policy .ensures .yes (c .before .before .before .before .before .before .before .before .before .before .before .before .before .before .before .before .before .before .before .if3 .left)) (c .before .before .before .before .before .before .before .before .before .before .before .before .before .before .before .before .before .accesses .result) (c .before .before .before .before .before .before .before .before .before .before .before .before .before .before .before .before .before .accesses .ensures ∙ ap total (c .before .before .before .before .before .before .before .before .before .before .before .before .before .before .before .before .before .before .counts-of .ensures)) _ _ (c .before .before .before .before .before .before .before .before .before .before .before .before .before .before .before .run-policy .ensures (c .before .before .before .before .before .before .before .before .before .before .before .before .before .before .before .before .before .before .before .before .before .before .before .before .before .before .before .before .before .before .args .f .now) (in-whole (c .before .before .before .before .before .before .before .before .before .before .before .before .before .before .before .before .before .before .before .before .before .before .before .before .before .before .before .before .before .before .args .f .now) (c .before .before .before .before .before .before .before .before .before .before .before .before .before .before .before .before .before .before .before .before .before .before .before .before .before .before .before .before .before .before .args .w .now) (c .before .before .before .before .before .before .before .before .before .before .before .before .before .before .before .before .before .before .before .before .before .before .before .read-policy .last .1 .0) (c .before .before .before .before .before .before .before .before .before .before .before .before .before .before .before .before .before .before .before .before .before .before .before .before .before .if2 .left) (c .before .before .before .before .before .before .before .before .before .before .before .before .before .before .before .before .before .before .before .before .before .before .before .read-policy .kept .1 .0) (c .before .before .before .before .before .before .before .before .before .before .before .before .before .before .before .before .before .before .before .before .before .before .before .read-policy .result) (c .before .before .before .before .before .before .before .before .before .before .before .before .before .before .before .before .before .before .before .before .before .before .before .read-policy .ensures .yes (c .before .before .before .before .before .before .before .before .before .before .before .before .before .before .before .before .before .before .before .if3 .left)))) _ _ _ _ (c .before .before .before .before .before .before .before .before .before .before .copy .ensures) (c .before .before .before .before .before .before .count .ensures) (c .before .before .before .before .count2 .ensures) (c .before .before .clear2 .ensures)
 
 pub compose-spec : {M : Type 1} → statement M
 compose-spec =
