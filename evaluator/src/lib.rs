@@ -8,6 +8,7 @@ pub mod corpus;
 pub mod edges;
 pub mod expression;
 pub mod generate;
+pub mod larger;
 pub mod listing;
 pub mod policy;
 pub mod reader;
