@@ -94,7 +94,18 @@ fn listed(program: &str, file: &[u8]) -> String {
 
 fn listing(program: &str, file: &[u8]) -> Option<String> {
     let (said, expected) = (listed(program, file), evaluator::list(file));
-    (said != expected).then(|| format!("{:.60?}, not {:.60?}", said, expected))
+    if said == expected {
+        return None;
+    }
+    let (mut lines, mut others) = (said.lines(), expected.lines());
+    let mut number = 1;
+    loop {
+        let (line, other) = (lines.next(), others.next());
+        if line != other || line.is_none() {
+            return Some(format!("line {number}: {line:?}, not {other:?}"));
+        }
+        number += 1;
+    }
 }
 
 fn number(word: Option<&String>) -> u64 {
