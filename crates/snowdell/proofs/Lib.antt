@@ -7,3 +7,4 @@ pub mod AcceptedFile
 pub mod Composing
 pub mod Asking
 pub mod Deciding
+pub mod Promises

@@ -13,3 +13,13 @@ handed ns l = cond (leb (length ns) (length l)) (written ns l) l
 
 abbrev pub checkNumbers : Checked → List ℕ
 checkNumbers r = r .number ∷ r .line ∷ r .place ∷ r .subjects ∷ r .objects ∷ r .actions ∷ []
+
+abbrev pub composeNumbers : Composed → List ℕ
+composeNumbers r = r .number ∷ r .line ∷ r .place ∷ r .accesses ∷ r .permits ∷ r .undecided ∷ r .rounds ∷ []
+
+abbrev pub decideNumbers : Decided → List ℕ
+decideNumbers r = r .number ∷ r .line ∷ r .place ∷ r .answer ∷ r .rounds ∷ []
+
+-- what a buffer becomes where there is room for k numbers; else it stays
+unfoldable pub whereRoom : ℕ → List ℕ → List ℕ → List ℕ → List ℕ
+whereRoom k numbers next now = cond (leb k (length numbers)) next now

@@ -25,6 +25,7 @@ ghost use Rattle.algebra.specs.Sort.{subject, object, action};
 ghost use Rattle.grammar.specs.Names.{member};
 ghost use Rattle.expressions.specs.Entries.{Sound, lookupIn};
 ghost use Rattle.engine.specs.Calls as Calls;
+ghost use Rattle.snowdell.specs.Promised.{Promised, composeSays, decideSays};
 ghost use Rattle.snowdell.specs.Returned.{checkedOf, composedOf, decidedOf, refusal, noAnswer, askedOf};
 
 // ---- Check
@@ -95,6 +96,7 @@ fn not_composed(number: u8, line: usize, place: usize) -> Composed
 
 pub fn compose(f: &[u8], result: &mut [u8], w: &mut [u8]) -> Composed
     ensures { λ r. ⌜ composedOf r (now (result .exit)) (now (w .exit)) ≡ Calls.compose (now (f .entry)) (now (result .entry)) (now (w .entry)) ⌝ }
+    ensures { λ r. ⌜ Promised (now (f .entry)) (composeSays r (now (result .exit))) ⌝ }
 {
     if result.len() < 4096 {
         return not_composed(1, 0, 0);
@@ -181,6 +183,7 @@ fn ask<'a>(
 
 pub fn decide<'a>(f: &'a [u8], s: &'a [u8], o: &'a [u8], a: &'a [u8], w: &mut [u8]) -> Decided
     ensures { λ r. ⌜ decidedOf r (now (w .exit)) ≡ Calls.decide (now (f .entry)) (now (s .entry)) (now (o .entry)) (now (a .entry)) (now (w .entry)) ⌝ }
+    ensures { λ r. ⌜ Promised (now (f .entry)) (decideSays (now (f .entry)) (now (s .entry)) (now (o .entry)) (now (a .entry)) r) ⌝ }
 {
     if w.len() < 65536 {
         return not_decided(1, 0, 0);

@@ -1,3 +1,4 @@
+use Rattle.snowdell.proofs.Promises.{compose-promises}
 use mathlib.Core.Path.{ap, _∙_}
 use Rattle.algebra.specs.StoredFrame.{total}
 use Rattle.snowdell.proofs.Lent.{lent-length, lent-fits, after-fits}
@@ -21,13 +22,13 @@ not-composed-requires : tie.Need-not-composed-requires
 not-composed-requires c κs = search needs
 
 returns : tie.Need-returns
-returns c = short-result _ _ _ (c .before .if1 .taken) _ (c .not-composed .ensures)
+returns c = compose-promises _ _ _ _ _ _ (short-result _ _ _ (c .before .if1 .taken) _ (c .not-composed .ensures))
 
 not-composed-requires-2 : tie.Need-not-composed-requires-2
 not-composed-requires-2 c κs = search needs
 
 returns-2 : tie.Need-returns-2
-returns-2 c = short-memory _ _ _ (c .before .if2 .taken) _ (c .not-composed2 .ensures)
+returns-2 c = compose-promises _ _ _ _ _ _ (short-memory _ _ _ (c .before .if2 .taken) _ (c .not-composed2 .ensures))
 
 sub-read-policy : tie.Need-sub-read-policy
 sub-read-policy c = search needs
@@ -51,7 +52,7 @@ same-length : tie.Need-same-length
 same-length c = c .before .before .before .clear .kept .0 ∙ lent-length (c .before .before .before .before .before .before .before .before .before .before .before .before .before .before .before .before .args .w .now) (c .before .before .before .before .before .before .before .before .before .read-policy .last .1 .0) (c .before .before .before .before .before .before .before .before .before .before .before .if2 .left) (c .before .before .before .before .before .before .before .before .before .read-policy .kept .1 .0)
 
 returns-3 : tie.Need-returns-3
-returns-3 c = not-read (c .before .before .before .before .before .before .before .before .before .before .before .before .before .before .before .before .args .f .now) (c .before .before .before .before .before .before .before .before .before .before .before .before .before .before .before .before .args .result .now) (c .before .before .before .before .before .before .before .before .before .before .before .before .before .before .before .before .args .w .now) (c .before .before .before .before .before .before .before .before .before .before .before .before .if1 .left) (c .before .before .before .before .before .before .before .before .before .before .before .if2 .left) (c .before .before .before .before .before .before .before .before .before .read-policy .last .1 .0) (c .before .before .before .before .before .before .before .before .before .read-policy .kept .1 .0) _ _ _ (c .before .before .before .before .before .before .before .before .before .read-policy .ensures .no (c .before .before .before .before .before .if3 .taken)) _ (c .not-composed3 .ensures) _ (c .before .before .before .clear .ensures)
+returns-3 c = compose-promises _ _ _ _ _ _ (not-read (c .before .before .before .before .before .before .before .before .before .before .before .before .before .before .before .before .args .f .now) (c .before .before .before .before .before .before .before .before .before .before .before .before .before .before .before .before .args .result .now) (c .before .before .before .before .before .before .before .before .before .before .before .before .before .before .before .before .args .w .now) (c .before .before .before .before .before .before .before .before .before .before .before .before .if1 .left) (c .before .before .before .before .before .before .before .before .before .before .before .if2 .left) (c .before .before .before .before .before .before .before .before .before .read-policy .last .1 .0) (c .before .before .before .before .before .before .before .before .before .read-policy .kept .1 .0) _ _ _ (c .before .before .before .before .before .before .before .before .before .read-policy .ensures .no (c .before .before .before .before .before .if3 .taken)) _ (c .not-composed3 .ensures) _ (c .before .before .before .clear .ensures))
 
 counts-of-requires : tie.Need-counts-of-requires
 counts-of-requires c κs = search needs
@@ -81,7 +82,7 @@ same-length-3 : tie.Need-same-length-3
 same-length-3 c = c .before .before .clear2 .kept .0 ∙ c .before .before .before .before .before .before .before .before .before .before .before .before .before .before .before .run-policy .kept .0 ∙ lent-length (c .before .before .before .before .before .before .before .before .before .before .before .before .before .before .before .before .before .before .before .before .before .before .before .before .before .before .before .before .before .before .args .w .now) (c .before .before .before .before .before .before .before .before .before .before .before .before .before .before .before .before .before .before .before .before .before .before .before .read-policy .last .1 .0) (c .before .before .before .before .before .before .before .before .before .before .before .before .before .before .before .before .before .before .before .before .before .before .before .before .before .if2 .left) (c .before .before .before .before .before .before .before .before .before .before .before .before .before .before .before .before .before .before .before .before .before .before .before .read-policy .kept .1 .0)
 
 returns-4 : tie.Need-returns-4
-returns-4 c = read-all (c .before .before .before .before .before .before .before .before .before .before .before .before .before .before .before .before .before .before .before .before .before .before .before .before .before .before .before .before .before .before .args .f .now) (c .before .before .before .before .before .before .before .before .before .before .before .before .before .before .before .before .before .before .before .before .before .before .before .before .before .before .before .before .before .before .args .result .now) (c .before .before .before .before .before .before .before .before .before .before .before .before .before .before .before .before .before .before .before .before .before .before .before .before .before .before .before .before .before .before .args .w .now) (c .before .before .before .before .before .before .before .before .before .before .before .before .before .before .before .before .before .before .before .before .before .before .before .before .before .before .if1 .left) (c .before .before .before .before .before .before .before .before .before .before .before .before .before .before .before .before .before .before .before .before .before .before .before .before .before .if2 .left) (c .before .before .before .before .before .before .before .before .before .before .before .before .before .before .before .before .before .before .before .before .before .before .before .read-policy .last .1 .0) (c .before .before .before .before .before .before .before .before .before .before .before .before .before .before .before .before .before .before .before .before .before .before .before .read-policy .kept .1 .0) (c .before .before .before .before .before .before .before .before .before .before .before .before .before .before .before .before .before .before .before .before .before .before .before .read-policy .result) (c .before .before .before .before .before .before .before .before .before .before .before .before .before .before .before .before .before .before .before .before .before .before .before .read-policy .ensures .yes (c .before .before .before .before .before .before .before .before .before .before .before .before .before .before .before .before .before .before .before .if3 .left)) (c .before .before .before .before .before .before .before .before .before .before .before .before .before .before .before .before .before .accesses .result) (c .before .before .before .before .before .before .before .before .before .before .before .before .before .before .before .before .before .accesses .ensures ∙ ap total (c .before .before .before .before .before .before .before .before .before .before .before .before .before .before .before .before .before .before .counts-of .ensures)) _ _ (c .before .before .before .before .before .before .before .before .before .before .before .before .before .before .before .run-policy .ensures (c .before .before .before .before .before .before .before .before .before .before .before .before .before .before .before .before .before .before .before .before .before .before .before .before .before .before .before .before .before .before .args .f .now) (in-whole (c .before .before .before .before .before .before .before .before .before .before .before .before .before .before .before .before .before .before .before .before .before .before .before .before .before .before .before .before .before .before .args .f .now) (c .before .before .before .before .before .before .before .before .before .before .before .before .before .before .before .before .before .before .before .before .before .before .before .before .before .before .before .before .before .before .args .w .now) (c .before .before .before .before .before .before .before .before .before .before .before .before .before .before .before .before .before .before .before .before .before .before .before .read-policy .last .1 .0) (c .before .before .before .before .before .before .before .before .before .before .before .before .before .before .before .before .before .before .before .before .before .before .before .before .before .if2 .left) (c .before .before .before .before .before .before .before .before .before .before .before .before .before .before .before .before .before .before .before .before .before .before .before .read-policy .kept .1 .0) (c .before .before .before .before .before .before .before .before .before .before .before .before .before .before .before .before .before .before .before .before .before .before .before .read-policy .result) (c .before .before .before .before .before .before .before .before .before .before .before .before .before .before .before .before .before .before .before .before .before .before .before .read-policy .ensures .yes (c .before .before .before .before .before .before .before .before .before .before .before .before .before .before .before .before .before .before .before .if3 .left)))) _ _ _ _ (c .before .before .before .before .before .before .before .before .before .before .copy .ensures) (c .before .before .before .before .before .before .count .ensures) (c .before .before .before .before .count2 .ensures) (c .before .before .clear2 .ensures)
+returns-4 c = compose-promises _ _ _ _ _ _ (read-all (c .before .before .before .before .before .before .before .before .before .before .before .before .before .before .before .before .before .before .before .before .before .before .before .before .before .before .before .before .before .before .args .f .now) (c .before .before .before .before .before .before .before .before .before .before .before .before .before .before .before .before .before .before .before .before .before .before .before .before .before .before .before .before .before .before .args .result .now) (c .before .before .before .before .before .before .before .before .before .before .before .before .before .before .before .before .before .before .before .before .before .before .before .before .before .before .before .before .before .before .args .w .now) (c .before .before .before .before .before .before .before .before .before .before .before .before .before .before .before .before .before .before .before .before .before .before .before .before .before .before .if1 .left) (c .before .before .before .before .before .before .before .before .before .before .before .before .before .before .before .before .before .before .before .before .before .before .before .before .before .if2 .left) (c .before .before .before .before .before .before .before .before .before .before .before .before .before .before .before .before .before .before .before .before .before .before .before .read-policy .last .1 .0) (c .before .before .before .before .before .before .before .before .before .before .before .before .before .before .before .before .before .before .before .before .before .before .before .read-policy .kept .1 .0) (c .before .before .before .before .before .before .before .before .before .before .before .before .before .before .before .before .before .before .before .before .before .before .before .read-policy .result) (c .before .before .before .before .before .before .before .before .before .before .before .before .before .before .before .before .before .before .before .before .before .before .before .read-policy .ensures .yes (c .before .before .before .before .before .before .before .before .before .before .before .before .before .before .before .before .before .before .before .if3 .left)) (c .before .before .before .before .before .before .before .before .before .before .before .before .before .before .before .before .before .accesses .result) (c .before .before .before .before .before .before .before .before .before .before .before .before .before .before .before .before .before .accesses .ensures ∙ ap total (c .before .before .before .before .before .before .before .before .before .before .before .before .before .before .before .before .before .before .counts-of .ensures)) _ _ (c .before .before .before .before .before .before .before .before .before .before .before .before .before .before .before .run-policy .ensures (c .before .before .before .before .before .before .before .before .before .before .before .before .before .before .before .before .before .before .before .before .before .before .before .before .before .before .before .before .before .before .args .f .now) (in-whole (c .before .before .before .before .before .before .before .before .before .before .before .before .before .before .before .before .before .before .before .before .before .before .before .before .before .before .before .before .before .before .args .f .now) (c .before .before .before .before .before .before .before .before .before .before .before .before .before .before .before .before .before .before .before .before .before .before .before .before .before .before .before .before .before .before .args .w .now) (c .before .before .before .before .before .before .before .before .before .before .before .before .before .before .before .before .before .before .before .before .before .before .before .read-policy .last .1 .0) (c .before .before .before .before .before .before .before .before .before .before .before .before .before .before .before .before .before .before .before .before .before .before .before .before .before .if2 .left) (c .before .before .before .before .before .before .before .before .before .before .before .before .before .before .before .before .before .before .before .before .before .before .before .read-policy .kept .1 .0) (c .before .before .before .before .before .before .before .before .before .before .before .before .before .before .before .before .before .before .before .before .before .before .before .read-policy .result) (c .before .before .before .before .before .before .before .before .before .before .before .before .before .before .before .before .before .before .before .before .before .before .before .read-policy .ensures .yes (c .before .before .before .before .before .before .before .before .before .before .before .before .before .before .before .before .before .before .before .if3 .left)))) _ _ _ _ (c .before .before .before .before .before .before .before .before .before .before .copy .ensures) (c .before .before .before .before .before .before .count .ensures) (c .before .before .before .before .count2 .ensures) (c .before .before .clear2 .ensures))
 
 pub compose-spec : {M : Type 1} → statement M
 compose-spec =

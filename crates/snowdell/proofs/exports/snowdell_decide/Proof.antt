@@ -1,0 +1,51 @@
+use Rattle.snowdell.proofs.Handing.{hands-nothing}
+use Rattle.snowdell.proofs.Numbers.{room-no, decide-hands}
+use borrow.Author.Needs.{needs}
+use Rattle.snowdell.proofs.exports.snowdell_decide.Statement.{statement}
+use Rattle.snowdell.proofs.exports.snowdell_decide.Tie as tie
+use Rattle.snowdell.proofs.exports.snowdell_decide.Reads as reads
+use Rattle.snowdell.proofs.exports.snowdell_decide.Lts as lts
+use Rattle.snowdell.proofs.decide.Reads as decide-reads
+use Rattle.snowdell.proofs.exports.hand.Reads as hand-reads
+use Rattle.snowdell.proofs.exports.wide.Reads as wide-reads
+
+returns : tie.Need-returns
+returns c = (hands-nothing _ _ (c .if1 .taken), room-no 5 _ _ _ (c .if1 .taken))
+
+decide-requires : tie.Need-decide-requires
+decide-requires c κs = search needs
+
+wide-requires : tie.Need-wide-requires
+wide-requires c κs = search needs
+
+wide-requires-2 : tie.Need-wide-requires-2
+wide-requires-2 c κs = search needs
+
+slice-aggregate-hand : tie.Need-slice-aggregate-hand
+slice-aggregate-hand c = search needs
+
+hand-requires : tie.Need-hand-requires
+hand-requires c κs = search needs
+
+same-length : tie.Need-same-length
+same-length c = search needs
+
+same-length-2 : tie.Need-same-length-2
+same-length-2 c = search needs
+
+returns-2 : tie.Need-returns-2
+returns-2 c = decide-hands _ _ _ _ _ _ _ (c .before .before .before .before .before .before .before .before .before .before .before .before .before .before .before .before .before .before .args .w .now) (c .before .before .before .before .before .before .before .before .before .before .before .if1 .left) (c .before .before .before .before .before .before .wide .ensures) (c .before .before .before .before .before .wide2 .ensures) (c .before .before .before .before .before .before .before .before .before .decide .ensures .0) (c .before .before .hand .ensures)
+
+pub snowdell-decide-spec : {M : Type 1} → statement M
+snowdell-decide-spec =
+    tie.close
+    (tie.spec
+    returns
+    decide-requires
+    wide-requires
+    wide-requires-2
+    slice-aggregate-hand
+    hand-requires
+    same-length
+    same-length-2
+    returns-2)
