@@ -1,4 +1,4 @@
-// Links the engine's static library, `libengine.a` of `rt staticlib engine`.
+// Links the engine's static library, `libsnowdell.a` of `rt staticlib snowdell`.
 // SNOWDELL_LIB names its folder; without it, target/staticlib of the repository.
 use std::path::PathBuf;
 
@@ -8,7 +8,7 @@ fn main() {
         Some(folder) => PathBuf::from(folder),
         None => PathBuf::from(std::env::var_os("CARGO_MANIFEST_DIR").unwrap()).join("../target/staticlib"),
     };
-    println!("cargo:rerun-if-changed={}", folder.join("libengine.a").display());
+    println!("cargo:rerun-if-changed={}", folder.join("libsnowdell.a").display());
     println!("cargo:rustc-link-search=native={}", folder.display());
-    println!("cargo:rustc-link-lib=static=engine");
+    println!("cargo:rustc-link-lib=static=snowdell");
 }

@@ -1,4 +1,4 @@
-/* The engine's three calls, for C. Link libengine.a of `rt staticlib engine`.
+/* The engine's three calls, for C. Link libsnowdell.a of `rt staticlib snowdell`.
  *
  * Each call writes its numbers to `numbers`: number, line and place first, all 0 when accepted. Where `numbers_len` is
  * smaller than the count given below, nothing at all is done. A pointer comes with the length of what it points to.
@@ -13,15 +13,15 @@
 #define SNOWDELL_MEMORY 65536
 
 /* 6 numbers: number, line, place, subjects, objects, actions */
-void snowdell_check(const uint8_t *file, size_t file_len, uint32_t *numbers, size_t numbers_len);
+void snowdell_check(const uint8_t *file, size_t file_len, size_t *numbers, size_t numbers_len);
 
 /* 7 numbers: number, line, place, N, permits, undecided, rounds */
 void snowdell_compose(const uint8_t *file, size_t file_len, uint8_t *result, size_t result_len, uint8_t *memory,
-                      size_t memory_len, uint32_t *numbers, size_t numbers_len);
+                      size_t memory_len, size_t *numbers, size_t numbers_len);
 
 /* 5 numbers: number, line, place, answer, rounds */
 void snowdell_decide(const uint8_t *file, size_t file_len, const uint8_t *subject, size_t subject_len,
                      const uint8_t *object, size_t object_len, const uint8_t *action, size_t action_len,
-                     uint8_t *memory, size_t memory_len, uint32_t *numbers, size_t numbers_len);
+                     uint8_t *memory, size_t memory_len, size_t *numbers, size_t numbers_len);
 
 #endif

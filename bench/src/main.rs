@@ -110,7 +110,7 @@ fn main() {
         let (mut engine, mut plain, mut other, mut asked) = (Timed::new(), Timed::new(), Timed::new(), Timed::new());
         let mut said = snowdell::compose(file, &mut result, &mut memory);
         let (answers, rounds) = plain::Plain::new(&policy).compose();
-        assert_eq!((said.rounds as usize, &result[..answers.len()]), (rounds, &answers[..]), "{name}");
+        assert_eq!((said.rounds, &result[..answers.len()]), (rounds, &answers[..]), "{name}");
         let names: Vec<&[u8]> = policy.members.iter().map(|m| &m.names[m.names.len() - 1][..]).collect();
         for _ in 0..turns {
             engine.turn(|| said = snowdell::compose(std::hint::black_box(file), &mut result, &mut memory));

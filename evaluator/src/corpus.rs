@@ -76,7 +76,8 @@ pub fn compare(folder: &Path) -> io::Result<Report> {
     Ok(report)
 }
 
-fn entries(folder: &Path) -> io::Result<Vec<PathBuf>> {
+/// A folder's paths, by name.
+pub fn entries(folder: &Path) -> io::Result<Vec<PathBuf>> {
     let entries: io::Result<Vec<_>> = fs::read_dir(folder)?.collect();
     let mut paths: Vec<_> = entries?.iter().map(|entry| entry.path()).collect();
     paths.sort();

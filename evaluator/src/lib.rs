@@ -5,8 +5,10 @@
 pub mod closure;
 pub mod compose;
 pub mod corpus;
+pub mod edges;
 pub mod expression;
 pub mod generate;
+pub mod larger;
 pub mod listing;
 pub mod policy;
 pub mod reader;

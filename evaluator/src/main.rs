@@ -7,7 +7,9 @@ use std::path::Path;
 use std::process::ExitCode;
 
 use evaluator::corpus;
+use evaluator::edges;
 use evaluator::generate::{self, Kind};
+use evaluator::larger;
 use evaluator::reader::MOST_FILE_BYTES;
 
 const USAGE: &str = "usage:
@@ -16,6 +18,8 @@ const USAGE: &str = "usage:
   evaluator decide SUBJECT OBJECT ACTION < FILE
   evaluator generate SEED COUNT sound|damaged|large|mixed DIR
   evaluator corpus DIR
+  evaluator check-folder|compose-folder DIR
+  evaluator edges|larger DIR
 ";
 
 fn main() -> ExitCode {
@@ -45,6 +49,13 @@ fn run(arguments: &[OsString]) -> io::Result<ExitCode> {
             }
         }
         [b"corpus", _] => compare(Path::new(&arguments[1])),
+        [b"check-folder", _] => print(&said(Path::new(&arguments[1]), edges::fields)?),
+        [b"compose-folder", _] => print(&said(Path::new(&arguments[1]), larger::fields)?),
+        [b"edges", _] => {
+            let files = edges::all().into_iter().map(|edge| (edge.name, edge.file));
+            write_program(Path::new(&arguments[1]), files.collect(), edges::fields)
+        }
+        [b"larger", _] => write_program(Path::new(&arguments[1]), larger::files(), larger::fields),
         _ => usage(),
     }
 }
@@ -77,6 +88,34 @@ fn write_policies(seed: u64, count: u64, kind: Kind, folder: &Path) -> io::Resul
         let file = generate::policy(seed, index, kind);
         fs::write(folder.join(format!("{index:06}.pol")), file)?;
     }
+    Ok(ExitCode::SUCCESS)
+}
+
+/// A line for each file of a folder, by name: the name and these fields of it.
+fn said(folder: &Path, fields: fn(&[u8]) -> String) -> io::Result<String> {
+    let mut text = String::new();
+    for path in corpus::entries(folder)? {
+        let name = path.file_name().unwrap_or_default().to_string_lossy();
+        text += &format!("{name},{}\n", fields(&fs::read(&path)?));
+    }
+    Ok(text)
+}
+
+/// A program's files: `data/`, their names in `args`, and what it has to print in `stdout`.
+fn write_program(
+    folder: &Path,
+    files: Vec<(String, Vec<u8>)>,
+    fields: fn(&[u8]) -> String,
+) -> io::Result<ExitCode> {
+    let data = folder.join("data");
+    fs::create_dir_all(&data)?;
+    let mut names = String::new();
+    for (name, file) in files {
+        fs::write(data.join(&name), file)?;
+        names += &format!("{name}\n");
+    }
+    fs::write(folder.join("args"), names)?;
+    fs::write(folder.join("stdout"), said(&data, fields)?)?;
     Ok(ExitCode::SUCCESS)
 }
 

@@ -30,11 +30,11 @@ fn lent() -> &'static std::sync::Mutex<Lent> {
     })
 }
 
-fn numbers(refusal: Option<Refusal>) -> (u32, u32, u32) {
-    refusal.map_or((0, 0, 0), |r| (r.number, r.line as u32, r.place as u32))
+fn numbers(refusal: Option<Refusal>) -> (usize, usize, usize) {
+    refusal.map_or((0, 0, 0), |r| (r.number as usize, r.line, r.place))
 }
 
-fn said(refusal: snowdell::Refusal) -> (u32, u32, u32) {
+fn said(refusal: snowdell::Refusal) -> (usize, usize, usize) {
     (refusal.number, refusal.line, refusal.place)
 }
 
@@ -58,19 +58,19 @@ pub unsafe extern "C" fn LLVMFuzzerTestOneInput(data: *const u8, size: usize) ->
     let check = snowdell::check(file);
     let expected = evaluator::check(input);
     assert_eq!(said(check.refusal), numbers(expected.err()));
-    let counts = expected.unwrap_or([0; 3]).map(|c| c as u32);
+    let counts = expected.unwrap_or([0; 3]);
     assert_eq!([check.subjects, check.objects, check.actions], counts);
 
     let composed = snowdell::compose(file, result, memory);
     let expected = evaluator::compose(input);
     assert_eq!(said(composed.refusal), numbers(expected.as_ref().err().copied()));
     let answers = expected.as_ref().map_or(&[][..], |c| &c.answers);
-    assert_eq!(composed.accesses as usize, answers.len());
+    assert_eq!(composed.accesses, answers.len());
     assert_eq!(&result[..answers.len()], answers);
     assert!(result[answers.len()..].iter().all(|b| *b == 0x5A), "the result beyond N");
     assert!(memory.iter().all(|b| *b == 0), "working memory after Compose");
     if let Ok(c) = &expected {
-        assert_eq!((composed.permits as usize, composed.undecided as usize, composed.rounds as usize), (c.permits, c.undecided, c.rounds));
+        assert_eq!((composed.permits, composed.undecided, composed.rounds), (c.permits, c.undecided, c.rounds));
     }
 
     let [s, o, a] = names(input);
@@ -79,7 +79,7 @@ pub unsafe extern "C" fn LLVMFuzzerTestOneInput(data: *const u8, size: usize) ->
     let decided = snowdell::decide(file, lent.names.read_only(), o, a, memory);
     let expected = evaluator::decide(input, s, o, a);
     assert_eq!(said(decided.refusal), numbers(expected.as_ref().err().copied()));
-    let expected = expected.map_or((0, 0), |d| (d.answer as u32, d.rounds as u32));
+    let expected = expected.map_or((0, 0), |d| (d.answer as usize, d.rounds));
     assert_eq!((decided.answer, decided.rounds), expected);
     assert!(memory.iter().all(|b| *b == 0), "working memory after Decide");
     0

@@ -7,7 +7,7 @@
 use std::process::ExitCode;
 
 /// Document 01's refusals in plain words.
-fn in_words(number: u32) -> &'static str {
+fn in_words(number: usize) -> &'static str {
     match number {
         1 => "a buffer is too short",
         2 => "the file is empty, too long, or its last line is not closed",
@@ -37,7 +37,7 @@ fn names(file: &[u8], kind: u8) -> Vec<String> {
 
 fn explain(file: &[u8], refusal: snowdell::Refusal) {
     println!("refused ({}): {}", refusal.number, in_words(refusal.number));
-    let Some(line) = file.split(|b| *b == b'\n').nth((refusal.line as usize).wrapping_sub(1)) else {
+    let Some(line) = file.split(|b| *b == b'\n').nth(refusal.line.wrapping_sub(1)) else {
         return;
     };
     let text = String::from_utf8_lossy(line);
@@ -45,7 +45,7 @@ fn explain(file: &[u8], refusal: snowdell::Refusal) {
     if refusal.number == 12 || refusal.number == 13 {
         let before = text.match_indices(',').nth(1).map_or(0, |(at, _)| at + 1);
         let margin = format!("line {}: ", refusal.line).len();
-        println!("{}^", " ".repeat(margin + before + refusal.place as usize));
+        println!("{}^", " ".repeat(margin + before + refusal.place));
     }
 }
 

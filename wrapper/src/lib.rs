@@ -3,7 +3,7 @@
 //! and `Decide`. Nothing checks these declarations against the library: they are assumed to fit.
 
 extern "C" {
-    fn snowdell_check(file: *const u8, file_len: usize, numbers: *mut u32, numbers_len: usize);
+    fn snowdell_check(file: *const u8, file_len: usize, numbers: *mut usize, numbers_len: usize);
     fn snowdell_compose(
         file: *const u8,
         file_len: usize,
@@ -11,7 +11,7 @@ extern "C" {
         result_len: usize,
         memory: *mut u8,
         memory_len: usize,
-        numbers: *mut u32,
+        numbers: *mut usize,
         numbers_len: usize,
     );
     fn snowdell_decide(
@@ -25,7 +25,7 @@ extern "C" {
         action_len: usize,
         memory: *mut u8,
         memory_len: usize,
-        numbers: *mut u32,
+        numbers: *mut usize,
         numbers_len: usize,
     );
 }
@@ -39,41 +39,41 @@ pub const MEMORY: usize = 65536;
 /// Number, line and place, all 0 when accepted.
 #[derive(Clone, Copy, Debug, PartialEq, Eq)]
 pub struct Refusal {
-    pub number: u32,
-    pub line: u32,
-    pub place: u32,
+    pub number: usize,
+    pub line: usize,
+    pub place: usize,
 }
 
 #[derive(Clone, Copy, Debug, PartialEq, Eq)]
 pub struct Checked {
     pub refusal: Refusal,
-    pub subjects: u32,
-    pub objects: u32,
-    pub actions: u32,
+    pub subjects: usize,
+    pub objects: usize,
+    pub actions: usize,
 }
 
 #[derive(Clone, Copy, Debug, PartialEq, Eq)]
 pub struct Composed {
     pub refusal: Refusal,
-    pub accesses: u32,
-    pub permits: u32,
-    pub undecided: u32,
-    pub rounds: u32,
+    pub accesses: usize,
+    pub permits: usize,
+    pub undecided: usize,
+    pub rounds: usize,
 }
 
 #[derive(Clone, Copy, Debug, PartialEq, Eq)]
 pub struct Decided {
     pub refusal: Refusal,
-    pub answer: u32,
-    pub rounds: u32,
+    pub answer: usize,
+    pub rounds: usize,
 }
 
-fn refusal(numbers: &[u32]) -> Refusal {
+fn refusal(numbers: &[usize]) -> Refusal {
     Refusal { number: numbers[0], line: numbers[1], place: numbers[2] }
 }
 
 pub fn check(file: &[u8]) -> Checked {
-    let mut n = [0u32; 6];
+    let mut n = [0usize; 6];
     // SAFETY: each pointer comes with the length of the slice that it points to.
     unsafe { snowdell_check(file.as_ptr(), file.len(), n.as_mut_ptr(), n.len()) };
     Checked { refusal: refusal(&n), subjects: n[3], objects: n[4], actions: n[5] }
@@ -81,7 +81,7 @@ pub fn check(file: &[u8]) -> Checked {
 
 /// Bytes 0 to N - 1 of `result` become the answers where the file is accepted.
 pub fn compose(file: &[u8], result: &mut [u8], memory: &mut [u8]) -> Composed {
-    let mut n = [0u32; 7];
+    let mut n = [0usize; 7];
     // SAFETY: each pointer comes with the length of the slice that it points to; the slices do not overlap.
     unsafe {
         snowdell_compose(
@@ -99,7 +99,7 @@ pub fn compose(file: &[u8], result: &mut [u8], memory: &mut [u8]) -> Composed {
 }
 
 pub fn decide(file: &[u8], subject: &[u8], object: &[u8], action: &[u8], memory: &mut [u8]) -> Decided {
-    let mut n = [0u32; 5];
+    let mut n = [0usize; 5];
     // SAFETY: each pointer comes with the length of the slice that it points to; the slices do not overlap.
     unsafe {
         snowdell_decide(

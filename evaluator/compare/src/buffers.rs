@@ -39,7 +39,7 @@ impl Lent {
 }
 
 /// Working memory afterwards: zero in its first 65,536 bytes and unchanged beyond; unchanged after number 1.
-pub fn memory_difference(lent: &Lent, number: u32) -> Option<String> {
+pub fn memory_difference(lent: &Lent, number: usize) -> Option<String> {
     if !lent.guards_stand() {
         return Some("a guard byte of the working memory changed".to_string());
     }

@@ -4,13 +4,13 @@ use crate::buffers::{memory_difference, Lent};
 use evaluator::Refusal;
 
 fn same_refusal(engine: snowdell::Refusal, evaluator: Option<Refusal>) -> Option<String> {
-    let expected = evaluator.map_or((0, 0, 0), |r| (r.number, r.line as u32, r.place as u32));
+    let expected = evaluator.map_or((0, 0, 0), |r| (r.number as usize, r.line, r.place));
     let said = (engine.number, engine.line, engine.place);
     (said != expected).then(|| format!("{said:?}, not {expected:?}"))
 }
 
-fn same(what: &str, engine: u32, evaluator: usize) -> Option<String> {
-    (engine as usize != evaluator).then(|| format!("{what} {engine}, not {evaluator}"))
+fn same(what: &str, engine: usize, evaluator: usize) -> Option<String> {
+    (engine != evaluator).then(|| format!("{what} {engine}, not {evaluator}"))
 }
 
 pub fn check(file: &[u8]) -> Option<String> {

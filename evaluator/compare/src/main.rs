@@ -4,9 +4,10 @@
 //!   compare calls SEED COUNT            Check, Compose and Decide on generated files, with every buffer
 //!   compare edits FILE                  all three on FILE cut at every byte, and with every byte changed
 //!   compare corpus DIR                  all three on every policy of a corpus, with asks.tsv
+//!   compare folder DIR                  all three on every policy of a folder
 //!   compare list PROGRAM SEED COUNT     the listing program on generated files
 //!
-//! The last line reads 'N passed, M failed'; a difference prints the seed and number that make the file again.
+//! `run` does all of these. The last line reads 'N passed, M failed'; a difference prints the seed and number that make the file again.
 
 mod buffers;
 mod calls;
@@ -47,23 +48,29 @@ fn generated(seed: u64, count: u64, mut compare: impl FnMut(&[u8]) -> Option<Str
     tally
 }
 
-fn corpus(folder: &str) -> Tally {
+/// All three calls on every policy of a folder.
+fn folder(path: &str, tally: &mut Tally) {
+    let mut files: Vec<_> = std::fs::read_dir(path)
+        .expect("a folder")
+        .map(|entry| entry.expect("an entry").path())
+        .filter(|path| path.extension().is_some_and(|e| e == "pol"))
+        .collect();
+    files.sort();
+    assert!(!files.is_empty(), "no policy in {path}");
+    for path in files {
+        let file = std::fs::read(&path).expect("a policy");
+        tally.count(|| path.display().to_string(), calls::all(&file));
+    }
+}
+
+fn corpus(path: &str) -> Tally {
     let mut tally = Tally::default();
     for group in ["worked", "readings", "valid", "broken", "big"] {
-        let mut files: Vec<_> = std::fs::read_dir(format!("{folder}/{group}"))
-            .expect("a corpus folder")
-            .map(|entry| entry.expect("an entry").path())
-            .filter(|path| path.extension().is_some_and(|e| e == "pol"))
-            .collect();
-        files.sort();
-        for path in files {
-            let file = std::fs::read(&path).expect("a policy");
-            tally.count(|| path.display().to_string(), calls::all(&file));
-        }
+        folder(&format!("{path}/{group}"), &mut tally);
     }
-    for line in std::fs::read_to_string(format!("{folder}/asks.tsv")).expect("asks.tsv").lines() {
+    for line in std::fs::read_to_string(format!("{path}/asks.tsv")).expect("asks.tsv").lines() {
         let fields: Vec<&str> = line.split('\t').collect();
-        let file = std::fs::read(format!("{folder}/{}.pol", fields[0])).expect("a policy");
+        let file = std::fs::read(format!("{path}/{}.pol", fields[0])).expect("a policy");
         let said = calls::decision_text(&file, fields[1].as_bytes(), fields[2].as_bytes(), fields[3].as_bytes());
         let difference = (said != fields[4]).then(|| format!("{said}, not {}", fields[4]));
         tally.count(|| line.to_string(), difference);
@@ -87,7 +94,18 @@ fn listed(program: &str, file: &[u8]) -> String {
 
 fn listing(program: &str, file: &[u8]) -> Option<String> {
     let (said, expected) = (listed(program, file), evaluator::list(file));
-    (said != expected).then(|| format!("{:.60?}, not {:.60?}", said, expected))
+    if said == expected {
+        return None;
+    }
+    let (mut lines, mut others) = (said.lines(), expected.lines());
+    let mut number = 1;
+    loop {
+        let (line, other) = (lines.next(), others.next());
+        if line != other || line.is_none() {
+            return Some(format!("line {number}: {line:?}, not {other:?}"));
+        }
+        number += 1;
+    }
 }
 
 fn number(word: Option<&String>) -> u64 {
@@ -101,9 +119,14 @@ fn main() -> ExitCode {
         Some("calls") => generated(number(words.get(1)), number(words.get(2)), calls::all),
         Some("edits") => edits::all(&std::fs::read(&words[1]).expect("a policy")),
         Some("corpus") => corpus(&words[1]),
+        Some("folder") => {
+            let mut tally = Tally::default();
+            folder(&words[1], &mut tally);
+            tally
+        }
         Some("list") => generated(number(words.get(2)), number(words.get(3)), |file| listing(&words[1], file)),
         _ => {
-            eprintln!("compare check|calls SEED COUNT | edits FILE | corpus DIR | list PROGRAM SEED COUNT");
+            eprintln!("compare check|calls SEED COUNT | edits FILE | corpus DIR | folder DIR | list PROGRAM SEED COUNT");
             return ExitCode::FAILURE;
         }
     };

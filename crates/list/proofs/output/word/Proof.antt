@@ -1,0 +1,37 @@
+-- `list::output::word` is safe and ends: the bytes that are left fall.
+use Prim.Native.Nat.{_-_, _≤_}
+use native.Mathlib.Omega.{arith}
+use borrow.Author.Needs.{needs}
+use lib.ListN.{length}
+use Rattle.list.proofs.output.word.Statement.{statement}
+use Rattle.list.proofs.output.word.Tie as tie
+
+abbrev Inv-loop : tie.InvT-loop
+Inv-loop out₀ at text n₀ i₀ i-end out n i = n ≤ 4096
+
+abbrev μ-loop : tie.MeasureT-loop
+μ-loop out₀ at text n₀ i₀ i-end out n i = i-end - i
+
+loop-holds : tie.Need-loop-holds Inv-loop μ-loop
+loop-holds c = search needs
+
+shared-slice-read-byte : tie.Need-shared-slice-read-byte Inv-loop μ-loop
+shared-slice-read-byte c = search needs
+
+byte-requires : tie.Need-byte-requires Inv-loop μ-loop
+byte-requires c κs = search needs
+
+add-i : tie.Need-add-i Inv-loop μ-loop
+add-i c = search needs
+
+loop-less : tie.Need-loop-less Inv-loop μ-loop
+loop-less c = search needs
+
+loop-again : tie.Need-loop-again Inv-loop μ-loop
+loop-again c = search needs
+
+returns : tie.Need-returns Inv-loop μ-loop
+returns c = search needs
+
+pub word-spec : {M : Type 1} → statement M
+word-spec = tie.close (tie.spec Inv-loop μ-loop loop-holds shared-slice-read-byte byte-requires add-i loop-less loop-again returns)

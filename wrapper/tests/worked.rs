@@ -1,0 +1,101 @@
+//! Document 01's worked file through the wrapper: K1, refusals and short buffers; and the calls of snowdell.h with too little room
+//! for their numbers.
+
+use snowdell::{check, compose, decide, Refusal, MEMORY, RESULT};
+
+extern "C" {
+    fn snowdell_check(file: *const u8, len: usize, numbers: *mut usize, count: usize);
+    fn snowdell_compose(
+        file: *const u8,
+        len: usize,
+        result: *mut u8,
+        result_len: usize,
+        memory: *mut u8,
+        memory_len: usize,
+        numbers: *mut usize,
+        count: usize,
+    );
+}
+
+const K1: &[u8] = include_bytes!("../../evaluator/corpus/worked/k01.pol");
+const K11: &[u8] = include_bytes!("../../evaluator/corpus/worked/k11.pol");
+const ACCEPTED: Refusal = refusal(0, 0, 0);
+
+const fn refusal(number: usize, line: usize, place: usize) -> Refusal {
+    Refusal { number, line, place }
+}
+
+#[test]
+fn check_counts_or_refuses() {
+    let said = check(K1);
+    assert_eq!((said.refusal, said.subjects, said.objects, said.actions), (ACCEPTED, 2, 2, 1));
+    let said = check(K11);
+    assert_eq!((said.refusal, said.subjects, said.objects, said.actions), (refusal(12, 11, 6), 0, 0, 0));
+    assert_eq!(check(b"").refusal, refusal(2, 0, 0));
+}
+
+#[test]
+fn compose_writes_n_bytes_and_clears_its_memory() {
+    let (mut result, mut memory) = ([9; RESULT], vec![9; MEMORY + 1]);
+    let said = compose(K1, &mut result, &mut memory);
+    assert_eq!((said.refusal, said.accesses, said.permits, said.undecided, said.rounds), (ACCEPTED, 4, 2, 0, 1));
+    assert_eq!(result[..5], [2, 0, 2, 0, 9]);
+    assert!(memory[..MEMORY].iter().all(|b| *b == 0) && memory[MEMORY] == 9);
+}
+
+#[test]
+fn a_refusal_leaves_the_result() {
+    let (mut result, mut memory) = ([9; RESULT], vec![9; MEMORY]);
+    let said = compose(K11, &mut result, &mut memory);
+    assert_eq!((said.refusal, said.accesses), (refusal(12, 11, 6), 0));
+    assert_eq!(result, [9; RESULT]);
+    assert!(memory.iter().all(|b| *b == 0));
+}
+
+#[test]
+fn short_buffers_give_1_and_stay() {
+    let (mut result, mut memory) = ([9; RESULT], vec![9; MEMORY]);
+    assert_eq!(compose(K1, &mut result[1..], &mut memory).refusal, refusal(1, 0, 0));
+    assert_eq!(compose(K1, &mut result, &mut memory[1..]).refusal, refusal(1, 0, 0));
+    assert_eq!(decide(K1, b"ann", b"week", b"read", &mut memory[1..]).refusal, refusal(1, 0, 0));
+    assert!(result.iter().chain(&memory).all(|b| *b == 9));
+}
+
+#[test]
+fn decide_answers_or_names_the_unknown() {
+    let mut memory = vec![9; MEMORY];
+    let mut ask = |s: &[u8], o: &[u8], a: &[u8]| {
+        let said = decide(K1, s, o, a, &mut memory);
+        (said.refusal, said.answer, said.rounds)
+    };
+    assert_eq!(ask(b"ann", b"week", b"read"), (ACCEPTED, 2, 1));
+    assert_eq!(ask(b"ann", b"mon", b"read"), (ACCEPTED, 0, 1));
+    assert_eq!(ask(b"", b"nothing", b"read"), (refusal(15, 0, 1), 0, 0));
+    assert_eq!(ask(b"ann", b"ann", b"read"), (refusal(15, 0, 2), 0, 0));
+    assert_eq!(ask(b"ann", b"week", b"\xFF"), (refusal(15, 0, 3), 0, 0));
+    assert!(memory.iter().all(|b| *b == 0));
+}
+
+#[test]
+fn too_little_room_for_the_numbers_and_nothing_is_done() {
+    let (mut result, mut memory, mut numbers) = ([9; RESULT], vec![9; MEMORY], [9usize; 7]);
+    // SAFETY: each pointer comes with at most the length of what it points to.
+    unsafe {
+        snowdell_check(K1.as_ptr(), K1.len(), numbers.as_mut_ptr(), 5);
+        snowdell_compose(
+            K1.as_ptr(),
+            K1.len(),
+            result.as_mut_ptr(),
+            RESULT,
+            memory.as_mut_ptr(),
+            MEMORY,
+            numbers.as_mut_ptr(),
+            6,
+        );
+    }
+    assert_eq!(numbers, [9; 7]);
+    assert!(result.iter().chain(&memory).all(|b| *b == 9));
+    // SAFETY: as above.
+    unsafe { snowdell_check(K1.as_ptr(), K1.len(), numbers.as_mut_ptr(), 7) };
+    assert_eq!(numbers, [0, 0, 0, 2, 2, 1, 9]);
+}
