@@ -24,12 +24,12 @@ use Rattle.reader.specs.File.{Outcome, refused, accepted, policyOf, readLines, 
 use Rattle.reader.proofs.Rows.{Good, good-rows, rows-number}
 use Rattle.state.specs.Standing.{Stands}
 use Rattle.expressions.specs.Cells.{cell}
-use Rattle.state.specs.Goals.{GoalGood, GoalJudged, CellFits}
+use Rattle.goals.specs.Goals.{GoalGood, GoalJudged, CellFits}
 use Rattle.state.specs.declared.State.{State}
 use Rattle.state.specs.declared.Next.{Next}
-use Rattle.state.specs.declared.goal.Goal.{Goal}
-use Rattle.state.proofs.Goals.{goal-no, goal-yes, goal-added, goal-stands}
-use Rattle.state.proofs.GoalCells.{goal-cells}
+use Rattle.goals.specs.declared.Goal.{Goal}
+use Rattle.goals.proofs.Goals.{goal-no, goal-yes, goal-added, goal-stands}
+use Rattle.goals.proofs.GoalCells.{goal-cells}
 use Rattle.reading.specs.Reading.{GoalIs, ReadGood, ReadAs, LineRead, read-refused, read-good}
 use Rattle.lines.specs.Parsed.{lineOf}
 use Rattle.lines.specs.declared.line.Parsed.{Parsed}

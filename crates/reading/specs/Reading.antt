@@ -17,10 +17,10 @@ use Rattle.reader.specs.File.{policyOf, refused, accepted, readFile, judge, add
 use Rattle.lines.specs.declared.line.Parsed.{Parsed}
 use Rattle.lines.specs.declared.line.Parsed.the-variants.{Bad, Root, Child, Predicate, Table, Grant, Rule, GrantBody, OrderBody, HasBody, Expression}
 use Rattle.state.specs.Standing.{Stands}
-use Rattle.state.specs.Goals.{CellFits}
+use Rattle.goals.specs.Goals.{CellFits}
 use Rattle.state.specs.declared.State.{State}
 use Rattle.state.specs.declared.Next.{Next}
-use Rattle.state.specs.declared.goal.Goal.{Goal}
+use Rattle.goals.specs.declared.Goal.{Goal}
 use Rattle.reading.specs.declared.Reading.{Reading}
 
 -- ---- a line

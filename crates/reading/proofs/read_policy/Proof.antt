@@ -6,10 +6,10 @@ use native.Mathlib.Omega.{arith}
 use lib.ListN.{length}
 use Rattle.lines.specs.Parsed.{LineWithin, lineOf}
 use Rattle.state.specs.Standing.{grantedOf}
-use Rattle.state.specs.Goals.{endedOf}
+use Rattle.goals.specs.Goals.{endedOf}
 use Rattle.state.proofs.Lines.{names-stand}
 use Rattle.state.proofs.Granting.{length-written}
-use Rattle.state.proofs.Goals.{goal-no, goal-line}
+use Rattle.goals.proofs.Goals.{goal-no, goal-line}
 use Rattle.reading.proofs.Cut.{File, is-read, no-file}
 use Rattle.reading.proofs.GrantLine.{grant-no}
 use Rattle.reading.proofs.Others.{kept}
@@ -25,7 +25,7 @@ use Rattle.reading.proofs.empty.Reads as empty-reads
 use Rattle.reading.proofs.no_goal.Reads as no-goal-reads
 use Rattle.reading.proofs.other_line.Reads as other-line-reads
 use Rattle.reading.proofs.put_grant.Reads as put-grant-reads
-use Rattle.state.proofs.goal.judge_expression.Reads as judge-expression-reads
+use Rattle.goals.proofs.judge_expression.Reads as judge-expression-reads
 use Rattle.state.proofs.judge_grant.Reads as judge-grant-reads
 
 abbrev Inv-loop : tie.InvT-loop

@@ -14,12 +14,12 @@ use Rattle.reader.specs.Declarations.{Declared}
 use Rattle.reader.specs.Line.{expressionLine}
 use Rattle.reader.specs.Expression.{lookup}
 use Rattle.reader.specs.File.{add}
 use Rattle.state.specs.NameTables.{Names}
 use Rattle.state.specs.Standing.{Few, Stands}
-use Rattle.state.specs.Goals.{GoalGood, CellFits}
+use Rattle.goals.specs.Goals.{GoalGood, CellFits}
 use Rattle.state.specs.declared.State.{State}
 use Rattle.state.proofs.Found.{many, found-lt}
 use Rattle.state.proofs.Lines.{names-stand}
 
 module _ (f starts ends tags : List ℕ) (c : NameCounts) (few : Few c) (d : Declared) (N : Names f starts ends tags c d) where
   -- a name's number is below the count of its kind

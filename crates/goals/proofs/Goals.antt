@@ -30,14 +30,14 @@ use Rattle.reader.specs.Declarations.{Declared, groupOf}
 use Rattle.reader.specs.Expression.{lookup, isDeclared}
 use Rattle.reader.specs.Rows.{row, if, good, refuse, first, rows, outOfOrder, withoutRule, badCounts, tooMany, declaredAlready, notDeclared, grantsAway, twoSorts, notOfGrammar, nameNotDeclared, tooLarge, expressionRows}
 use Rattle.reader.specs.File.{goalOf, add}
 use Rattle.state.specs.Standing.{NamesStand, Stands}
 use Rattle.state.specs.Judged.{lateOf, badCountsOf}
-use Rattle.state.specs.Goals.{verdictAt, GoalGood, GoalJudged, endedOf}
+use Rattle.goals.specs.Goals.{verdictAt, GoalGood, GoalJudged, endedOf}
 use Rattle.state.specs.declared.State.{State}
-use Rattle.state.specs.declared.goal.Goal.{Goal}
+use Rattle.goals.specs.declared.Goal.{Goal}
 use Rattle.state.proofs.Verdicts.{first-met, first-passed, if-true, if-false, meets-8, meets-7, past-11}
 use Rattle.state.proofs.Grants.{early-4, in-order, counted}
 use Rattle.state.proofs.Lines.{few-after}
 
 -- ---- a part of the file as the code lends it
 

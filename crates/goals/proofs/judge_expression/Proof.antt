@@ -1,8 +1,8 @@
 use mathlib.Core.Path.{sym, _∙_}
-use Rattle.state.proofs.Goals.{told-part, goal-4, goal-8, goal-7, goal-12, goal-13, goal-held, goal-operators, goal-good}
+use Rattle.goals.proofs.Goals.{told-part, goal-4, goal-8, goal-7, goal-12, goal-13, goal-held, goal-operators, goal-good}
 use borrow.Author.Needs.{needs}
-use Rattle.state.proofs.goal.judge_expression.Statement.{statement}
-use Rattle.state.proofs.goal.judge_expression.Tie as tie
+use Rattle.goals.proofs.judge_expression.Statement.{statement}
+use Rattle.goals.proofs.judge_expression.Tie as tie
 
 late-requires : tie.Need-late-requires
 late-requires c κs = search needs

@@ -1,7 +1,4 @@
 // E lines: the rows that they may meet, and the program of the expression.
-use crate::State;
-use crate::bad_counts;
-use crate::late;
 use expressions::Cell;
 use expressions::NameCounts;
 use expressions::Parsed;
@@ -9,14 +6,16 @@ use expressions::Place;
 use expressions::Program;
 use expressions::read;
 use lines::text::Part;
+use state::bad_counts;
+use state::late;
 ghost use mathlib.Core.Path.{_≡_};
 ghost use Prim.Native.Nat.{_≤_};
 ghost use lib.ListN.{length};
 ghost use Rattle.expressions.specs.Entries.{Sound};
 ghost use Rattle.reader.specs.Declarations.{Declared};
 ghost use Rattle.lines.specs.Parsed.{Within, textOf};
 ghost use Rattle.state.specs.Standing.{NamesStand};
-ghost use Rattle.state.specs.Goals.{GoalJudged, endedOf};
+ghost use Rattle.goals.specs.Goals.{GoalJudged};
 
 // An E line's number, 0 where it is good, with the place of a refusal; its limit, and the program of its expression where it is good.
 pub struct Goal {
@@ -123,13 +122,4 @@ pub fn judge_expression<'a>(
             }
         },
     }
-}
-
-// The state after a good E line, but for its goal.
-pub fn ended(st: State) -> State
-    ensures { λ r. ⌜ r ≡ endedOf st ⌝ }
-{
-    let mut next = st;
-    next.group = 7;
-    next
 }

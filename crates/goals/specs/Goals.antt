@@ -18,8 +18,8 @@ use Rattle.reader.specs.Line.{expressionLine}
 use Rattle.reader.specs.Declarations.{Declared}
 use Rattle.reader.specs.Expression.{lookup}
 use Rattle.reader.specs.Rows.{Verdict, good, refuse, first, rows}
 use Rattle.state.specs.declared.State.{State}
-use Rattle.state.specs.declared.goal.Goal.{Goal}
+use Rattle.goals.specs.declared.Goal.{Goal}
 
 -- the verdict of an answer's number and place, 0 where the line is good
 abbrev pub verdictAt : ℕ → ℕ → Verdict
