@@ -35,8 +35,7 @@ use Rattle.snowdell.specs.Returned.{decidedOf, noAnswer, askedOf, askedI
 use Rattle.snowdell.specs.declared.Decided.{Decided}
 use Rattle.snowdell.specs.declared.Asked.{Asked}
 use Rattle.snowdell.specs.declared.Asked.the-variants.{Access, Unknown}
-use Rattle.snowdell.proofs.Lent.{lent-cleared}
-use Rattle.snowdell.proofs.AcceptedFile.{policy, in-whole, total-low, total-is, run-cleared, answers}
+use Rattle.snowdell.proofs.AcceptedFile.{policy, in-whole, total-low, total-is, answers}
 
 -- ---- the names taken apart
 
@@ -78,12 +77,9 @@ module _ (f s o a m : List ℕ) where
     unfolding decide
     reads = ap choice (le-leb 65536 (length m) fits)
 
-    pub not-read : (l : List ℕ) → length l ≡ length (midOf 57344 8192 m) → (k i p : ℕ) → readFile f ≡ refused k i p → (x : Decided) → x ≡ noAnswer k i p
-        → (m′ : List ℕ) → m′ ≡ cleared (putMid 57344 8192 m l) → decidedOf x m′ ≡ decide f s o a m
+    pub not-read : (k i p : ℕ) → readFile f ≡ refused k i p → (x : Decided) → x ≡ noAnswer k i p → decidedOf x (cleared m) ≡ decide f s o a m
     unfolding decided undecidedBy
-    not-read l kept k i p h x e m′ em =
-        ap (λ (y : Decided). decidedOf y m′) e ∙ ap (decidedOf (noAnswer k i p)) (em ∙ lent-cleared m l fits kept)
-        ∙ sym (reads ∙ ap (λ z. decided z s o a m) h)
+    not-read k i p h x e = ap (λ (y : Decided). decidedOf y (cleared m)) e ∙ sym (reads ∙ ap (λ z. decided z s o a m) h)
 
     -- ---- an accepted file
 
@@ -115,10 +111,10 @@ module _ (f s o a m : List ℕ) where
         unfolding decided
         accepted-is = reads ∙ ap (λ z. decided z s o a m) (W .outcome)
 
-        pub unknown-read : (p : ℕ) → x ≡ Unknown p → (y : Decided) → y ≡ noAnswer 15 0 p → (m′ : List ℕ) → m′ ≡ cleared (putMid 57344 8192 m l) → decidedOf y m′ ≡ decide f s o a m
+        pub unknown-read : (p : ℕ) → x ≡ Unknown p → (y : Decided) → y ≡ noAnswer 15 0 p → decidedOf y (cleared m) ≡ decide f s o a m
         unfolding undecidedBy
-        unknown-read p ex y ey m′ em =
-            ap (λ (z : Decided). decidedOf z m′) ey ∙ ap (decidedOf (noAnswer 15 0 p)) (em ∙ lent-cleared m l fits kept)
+        unknown-read p ex y ey =
+            ap (λ (z : Decided). decidedOf z (cleared m)) ey
             ∙ unknown-answered c (at subject s) (at object o) (at action a) p (sym ex ∙ asked-is) (policy f m l fits kept q G) (cleared m) ∙ sym accepted-is
 
         module _ (k : ℕ) (ex : x ≡ Access k) where
@@ -135,11 +131,10 @@ module _ (f s o a m : List ℕ) where
           known-fits = let h = known-low in let j = total-low f m l fits kept q G in omega arith
 
           pub known-read : (rounds : ℕ) (m′ : List ℕ) → Compose.Composed (policy f m l fits kept q G) (putMid 57344 8192 m l) rounds m′
-              → (answer : ℕ) (m″ : List ℕ) → answer ≡ getD m′ k 0 → m″ ≡ cleared m′
-              → decidedOf (record { number = 0; line = 0; place = 0; answer = answer; rounds = rounds }) m″ ≡ decide f s o a m
+              → decidedOf (record { number = 0; line = 0; place = 0; answer = getD m′ k 0; rounds = rounds }) (cleared m) ≡ decide f s o a m
           unfolding answered
-          known-read rounds m′ C answer m″ ea em =
-              rw (ea, em, run-cleared f m l fits kept q G rounds m′ C, C .all, byte-is) (sym (accepted-is ∙ rw (names .s-at, names .o-at, names .a-at)))
+          known-read rounds m′ C =
+              rw (C .all, byte-is) (sym (accepted-is ∙ rw (names .s-at, names .o-at, names .a-at)))
             where
               place-is : k ≡ number (members (policy f m l fits kept q G .frame) object) (members (policy f m l fits kept q G .frame) action) (names .s-is) (names .o-is) (names .a-is)
               place-is = names .is-number ∙ rw (same-counts f (putMid 57344 8192 m l) q W object, same-counts f (putMid 57344 8192 m l) q W action)

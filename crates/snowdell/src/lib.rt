@@ -22,6 +22,7 @@ ghost use mathlib.Core.Path.{_≡_};
 ghost use mathlib.Core.List.{List};
 ghost use Prim.Native.Nat.{ℕ, _+_, _*_, _≤_, _<_};
 ghost use lib.ListN.{length, getD};
+ghost use Rattle.algebra.specs.Bytes.{cleared};
 ghost use Rattle.algebra.specs.Sort.{subject, object, action};
 ghost use Rattle.grammar.specs.Names.{member};
 ghost use Rattle.expressions.specs.Entries.{Sound, lookupIn};
@@ -190,28 +191,22 @@ fn ask_state<'a>(f: &'a [u8], st: State, s: &'a [u8], o: &'a [u8], a: &'a [u8]) 
     ask(f, &st.starts, &st.ends, &st.tags, st.counts, s, o, a)
 }
 
-pub fn decide<'a>(f: &'a [u8], s: &'a [u8], o: &'a [u8], a: &'a [u8], w: &mut [u8]) -> Decided
-    ensures { λ r. ⌜ decidedOf r (now (w .exit)) ≡ Calls.decide (now (f .entry)) (now (s .entry)) (now (o .entry)) (now (a .entry)) (now (w .entry)) ⌝ }
-    ensures { λ r. ⌜ Promised (now (f .entry)) (decideSays (now (f .entry)) (now (s .entry)) (now (o .entry)) (now (a .entry)) r) ⌝ }
+// Decide in a memory that is large enough, whose first 65,536 bytes are left as they fall.
+fn decide_within<'a>(f: &'a [u8], s: &'a [u8], o: &'a [u8], a: &'a [u8], w: &mut [u8]) -> Decided
+    requires { ⌜ 65536 ≤ length (now w) ⌝ }
+    ensures { λ r. ⌜ decidedOf r (cleared (now (w .entry))) ≡ Calls.decide (now (f .entry)) (now (s .entry)) (now (o .entry)) (now (a .entry)) (now (w .entry)) ⌝ }
+    ensures { λ _. ⌜ cleared (now (w .exit)) ≡ cleared (now (w .entry)) ⌝ }
 {
-    if w.len() < 65536 {
-        return not_decided(1, 0, 0);
-    }
     let r = read_policy(f, &mut w[57344..65536]);
     if r.number != 0 {
-        clear(w);
         return not_decided(r.number, r.line, r.place);
     }
     let asked = ask_state(f, r.state, s, o, a);
     match asked {
-        Asked::Unknown(place) => {
-            clear(w);
-            not_decided(15, 0, place)
-        }
+        Asked::Unknown(place) => not_decided(15, 0, place),
         Asked::Access(at) => {
             let rounds = run_policy(w, r);
             let answer = w[at];
-            clear(w);
             Decided {
                 number: 0,
                 line: 0,
@@ -221,4 +216,16 @@ pub fn decide<'a>(f: &'a [u8], s: &'a [u8], o: &'a [u8], a: &'a [u8], w: &mut [u
             }
         }
     }
+}
+
+pub fn decide<'a>(f: &'a [u8], s: &'a [u8], o: &'a [u8], a: &'a [u8], w: &mut [u8]) -> Decided
+    ensures { λ r. ⌜ decidedOf r (now (w .exit)) ≡ Calls.decide (now (f .entry)) (now (s .entry)) (now (o .entry)) (now (a .entry)) (now (w .entry)) ⌝ }
+    ensures { λ r. ⌜ Promised (now (f .entry)) (decideSays (now (f .entry)) (now (s .entry)) (now (o .entry)) (now (a .entry)) r) ⌝ }
+{
+    if w.len() < 65536 {
+        return not_decided(1, 0, 0);
+    }
+    let r = decide_within(f, s, o, a, w);
+    clear(w);
+    r
 }
