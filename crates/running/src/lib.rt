@@ -4,17 +4,19 @@ use composer::run;
 use composer::tables;
 use expressions::NameCounts;
 use reading::Reading;
+use reading::read_policy;
 ghost use mathlib.Core.Path.{_≡_};
 ghost use mathlib.Core.List.{List};
 ghost use Prim.Native.Nat.{ℕ, _+_, _≤_, _<_};
 ghost use lib.ListN.{length, getD};
+ghost use Rattle.algebra.specs.Bytes.{cleared};
 ghost use Rattle.algebra.specs.Sort.{Sort, subject, object, action};
 ghost use Rattle.algebra.specs.Order.{Ordered};
 ghost use Rattle.algebra.specs.Policy.{Frame, members};
 ghost use Rattle.algebra.specs.StoredFrame.{sizeOf, parentsOf, Stands};
 ghost use Rattle.composer.specs.Compose.{Composed, Listed};
 ghost use Rattle.reader.specs.File.{policyOf};
-ghost use Rattle.reading.specs.Reading.{ReadGood};
+ghost use Rattle.reading.specs.Reading.{ReadGood, ReadAs};
 ghost use Rattle.running.specs.Runs.{grantsPart, Runs, countsOf, tagsOf};
 
 fn wide(x: u8) -> usize
@@ -63,6 +65,15 @@ fn fill_table<'a>(t: &mut [u8], tags: &'a [u8], marks: &'a [u8], n: Counts)
         &tags[128..actions],
         marks,
     );
+}
+
+// Reads a file; its grants go to the memory from byte 57,344 on.
+pub fn read_within(f: &[u8], w: &mut [u8]) -> Reading
+    requires { ⌜ 65536 ≤ length (now w) ⌝ }
+    ensures { λ r. ⌜ ReadAs (now (f .entry)) (grantsPart (now (w .exit))) r ⌝ }
+    ensures { λ _. ⌜ cleared (now (w .exit)) ≡ cleared (now (w .entry)) ⌝ }
+{
+    read_policy(f, &mut w[57344..65536])
 }
 
 // Runs the policy of an accepted file, whose grants are in the memory from byte 57,344 on; returns the sum of the rounds.

@@ -7,7 +7,6 @@ use native.Mathlib.Omega.{arith}
 use lib.ListN.{length, take}
 use lib.Dec.{leb}
 use borrow.Author.Tests.{le-leb, lt-leb}
-use borrow.Rule.Slice.PartMut.{midOf, putMid}
 use Rattle.algebra.specs.Bytes.{cleared, written, tally}
 use Rattle.algebra.specs.Policy.{accesses}
 use Rattle.algebra.specs.StoredFrame.{total}
@@ -15,13 +14,12 @@ use Rattle.composer.specs.Compose as Compose
 use Rattle.reader.specs.File.{refused, accepted, readFile}
 use Rattle.reading.specs.Reading.{ReadGood}
 use Rattle.reading.specs.declared.Reading.{Reading}
-use Rattle.running.specs.Runs.{countsOf}
+use Rattle.running.specs.Runs.{grantsPart, countsOf}
 use Rattle.engine.specs.Calls as Calls
 use Rattle.engine.specs.Calls.{compose, composed, composition, unchanged}
 use Rattle.snowdell.specs.Returned.{composedOf, refusal}
 use Rattle.snowdell.specs.declared.Composed.{Composed}
-use Rattle.snowdell.proofs.Lent.{lent-cleared}
-use Rattle.snowdell.proofs.AcceptedFile.{policy, in-whole, total-low, total-is, run-cleared, answers}
+use Rattle.snowdell.proofs.AcceptedFile.{policy, total-low, total-is, answers}
 
 -- ---- row 1, and a file that is not accepted
 
@@ -51,29 +49,30 @@ module _ (f r m : List ℕ) where
     unfolding compose
     reads = ap choice both
 
-    pub not-read : (l : List ℕ) → length l ≡ length (midOf 57344 8192 m) → (k i p : ℕ) → readFile f ≡ refused k i p → (x : Composed) → x ≡ refusal k i p → (m′ : List ℕ) → m′ ≡ cleared (putMid 57344 8192 m l)
-        → composedOf x r m′ ≡ compose f r m
+    pub not-read : (k i p : ℕ) → readFile f ≡ refused k i p → (x : Composed) → x ≡ refusal k i p → composedOf x r (cleared m) ≡ compose f r m
     unfolding composed unchanged
-    not-read l kept k i p h x e m′ em =
-        ap (λ (y : Composed). composedOf y r m′) e ∙ ap (composedOf (refusal k i p) r) (em ∙ lent-cleared m l fits kept)
-        ∙ sym (reads ∙ ap (λ o. composed o r m) h)
+    not-read k i p h x e = ap (λ (y : Composed). composedOf y r (cleared m)) e ∙ sym (reads ∙ ap (λ o. composed o r m) h)
 
-    -- ---- an accepted file
+    -- ---- an accepted file, whose grants the reading left in w
 
-    module _ (l : List ℕ) (kept : length l ≡ length (midOf 57344 8192 m)) (q : Reading) (G : ReadGood f l q) (n : ℕ) (is-count : n ≡ total (countsOf (q .state .counts))) where
-      pub few : n ≤ 4096
-      few = subst (λ (k : ℕ). k ≤ 4096) (sym is-count) (total-low f m l fits kept q G)
+    module _ (w : List ℕ) (long : length w ≡ length m) (q : Reading) (G : ReadGood f (grantsPart w) q)
+        (n : ℕ) (is-count : n ≡ total (countsOf (q .state .counts))) where
+      few : n ≤ 4096
+      few = subst (λ (k : ℕ). k ≤ 4096) (sym is-count) (total-low f w q G)
 
       pub in-result : n ≤ length r
       in-result = let h = few in omega arith
 
-      pub read-all : (rounds : ℕ) (m′ : List ℕ) → Compose.Composed (policy f m l fits kept q G) (putMid 57344 8192 m l) rounds m′
-          → (permits undecided : ℕ) (r′ m″ : List ℕ) → r′ ≡ written (take n m′) r → permits ≡ tally 2 (take n m′) → undecided ≡ tally 1 (take n m′) → m″ ≡ cleared m′
-          → composedOf (record { number = 0; line = 0; place = 0; accesses = n; permits = permits; undecided = undecided; rounds = rounds }) r′ m″ ≡ compose f r m
+      pub in-memory : (w′ : List ℕ) → length w′ ≡ length w → n ≤ length w′
+      in-memory w′ e = let h = few in omega arith
+
+      pub read-all : (rounds : ℕ) (w′ : List ℕ) → Compose.Composed (policy f w q G) w rounds w′
+          → (permits undecided : ℕ) (r′ : List ℕ) → r′ ≡ written (take n w′) r → permits ≡ tally 2 (take n w′) → undecided ≡ tally 1 (take n w′)
+          → composedOf (record { number = 0; line = 0; place = 0; accesses = n; permits = permits; undecided = undecided; rounds = rounds }) r′ (cleared m) ≡ compose f r m
       unfolding composed composition
-      read-all rounds m′ C permits undecided r′ m″ er ep eu em =
-          rw (er, ep, eu, em, answers f m l fits kept q G rounds m′ C n all, run-cleared f m l fits kept q G rounds m′ C, all, C .all)
-          (sym (reads ∙ ap (λ o. composed o r m) (in-whole f m l fits kept q G .outcome)))
+      read-all rounds w′ C permits undecided r′ er ep eu =
+          rw (er, ep, eu, answers f w q G rounds w′ C n all, all, C .all)
+          (sym (reads ∙ ap (λ o. composed o r m) (G .outcome)))
         where
-          all : n ≡ accesses (policy f m l fits kept q G .frame)
-          all = is-count ∙ total-is f m l fits kept q G
+          all : n ≡ accesses (policy f w q G .frame)
+          all = is-count ∙ total-is f w q G

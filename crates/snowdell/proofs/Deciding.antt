@@ -9,7 +9,6 @@ use lib.ListN.{length, getD, take}
 use lib.Seq.{getD-take}
 use lib.Dec.{leb}
 use borrow.Author.Tests.{le-leb, lt-leb}
-use borrow.Rule.Slice.PartMut.{midOf, putMid}
 use Rattle.algebra.specs.Sort.{Sort, subject, object, action}
 use Rattle.algebra.specs.Bytes.{cleared}
 use Rattle.algebra.specs.Policy.{Policy, accesses, members, number, bytes}
@@ -35,7 +34,7 @@ use Rattle.snowdell.specs.Returned.{decidedOf, noAnswer, askedOf, askedI
 use Rattle.snowdell.specs.declared.Decided.{Decided}
 use Rattle.snowdell.specs.declared.Asked.{Asked}
 use Rattle.snowdell.specs.declared.Asked.the-variants.{Access, Unknown}
-use Rattle.snowdell.proofs.AcceptedFile.{policy, in-whole, total-low, total-is, answers}
+use Rattle.snowdell.proofs.AcceptedFile.{policy, total-low, total-is, answers}
 
 -- ---- the names taken apart
 
@@ -83,10 +82,7 @@ module _ (f s o a m : List ℕ) where
 
     -- ---- an accepted file
 
-    module _ (l : List ℕ) (kept : length l ≡ length (midOf 57344 8192 m)) (q : Reading) (G : ReadGood f l q) where
-      abbrev W : ReadGood f (grantsPart (putMid 57344 8192 m l)) q
-      W = in-whole f m l fits kept q G
-
+    module _ (w : List ℕ) (q : Reading) (W : ReadGood f (grantsPart w) q) where
       abbrev c : NameCounts
       c = q .state .counts
 
@@ -107,7 +103,7 @@ module _ (f s o a m : List ℕ) where
         asked-is : x ≡ askedOf c (at subject s) (at object o) (at action a)
         asked-is = is ∙ rw (found-at subject s, found-at object o, found-at action a)
 
-        accepted-is : decide f s o a m ≡ answered (policy f m l fits kept q G) (at subject s) (at object o) (at action a) (cleared m)
+        accepted-is : decide f s o a m ≡ answered (policy f w q W) (at subject s) (at object o) (at action a) (cleared m)
         unfolding decided
         accepted-is = reads ∙ ap (λ z. decided z s o a m) (W .outcome)
 
@@ -115,7 +111,7 @@ module _ (f s o a m : List ℕ) where
         unfolding undecidedBy
         unknown-read p ex y ey =
             ap (λ (z : Decided). decidedOf z (cleared m)) ey
-            ∙ unknown-answered c (at subject s) (at object o) (at action a) p (sym ex ∙ asked-is) (policy f m l fits kept q G) (cleared m) ∙ sym accepted-is
+            ∙ unknown-answered c (at subject s) (at object o) (at action a) p (sym ex ∙ asked-is) (policy f w q W) (cleared m) ∙ sym accepted-is
 
         module _ (k : ℕ) (ex : x ≡ Access k) where
           names : Known c (at subject s) (at object o) (at action a) k
@@ -127,20 +123,20 @@ module _ (f s o a m : List ℕ) where
               (number-lt
               (at-low subject s (names .s-is) (names .s-at)) (at-low object o (names .o-is) (names .o-at)) (at-low action a (names .a-is) (names .a-at)))
 
-          pub known-fits : k < 4096
-          known-fits = let h = known-low in let j = total-low f m l fits kept q G in omega arith
+          pub known-fits : (w′ : List ℕ) → 65536 ≤ length w′ → k < length w′
+          known-fits w′ e = let h = known-low in let j = total-low f w q W in omega arith
 
-          pub known-read : (rounds : ℕ) (m′ : List ℕ) → Compose.Composed (policy f m l fits kept q G) (putMid 57344 8192 m l) rounds m′
+          pub known-read : (rounds : ℕ) (m′ : List ℕ) → Compose.Composed (policy f w q W) w rounds m′
               → decidedOf (record { number = 0; line = 0; place = 0; answer = getD m′ k 0; rounds = rounds }) (cleared m) ≡ decide f s o a m
           unfolding answered
           known-read rounds m′ C =
               rw (C .all, byte-is) (sym (accepted-is ∙ rw (names .s-at, names .o-at, names .a-at)))
             where
-              place-is : k ≡ number (members (policy f m l fits kept q G .frame) object) (members (policy f m l fits kept q G .frame) action) (names .s-is) (names .o-is) (names .a-is)
-              place-is = names .is-number ∙ rw (same-counts f (putMid 57344 8192 m l) q W object, same-counts f (putMid 57344 8192 m l) q W action)
+              place-is : k ≡ number (members (policy f w q W .frame) object) (members (policy f w q W .frame) action) (names .s-is) (names .o-is) (names .a-is)
+              place-is = names .is-number ∙ rw (same-counts f w q W object, same-counts f w q W action)
 
-              byte-is : getD m′ k 0 ≡ getD (bytes (policy f m l fits kept q G)) (number (members (policy f m l fits kept q G .frame) object) (members (policy f m l fits kept q G .frame) action) (names .s-is) (names .o-is) (names .a-is)) 0
+              byte-is : getD m′ k 0 ≡ getD (bytes (policy f w q W)) (number (members (policy f w q W .frame) object) (members (policy f w q W .frame) action) (names .s-is) (names .o-is) (names .a-is)) 0
               byte-is =
                   sym (getD-take (total (countsOf c)) m′ k 0 known-low)
-                  ∙ ap (λ (bs : List ℕ). getD bs k 0) (answers f m l fits kept q G rounds m′ C (total (countsOf c)) (total-is f m l fits kept q G))
-                  ∙ ap (λ (i : ℕ). getD (bytes (policy f m l fits kept q G)) i 0) place-is
+                  ∙ ap (λ (bs : List ℕ). getD bs k 0) (answers f w q W rounds m′ C (total (countsOf c)) (total-is f w q W))
+                  ∙ ap (λ (i : ℕ). getD (bytes (policy f w q W)) i 0) place-is

@@ -2,7 +2,6 @@
 pub mod Checks
 pub mod Handing
 pub mod Numbers
-pub mod Lent
 pub mod AcceptedFile
 pub mod Composing
 pub mod Asking

@@ -13,6 +13,7 @@ use expressions::NameKind;
 use expressions::look;
 use reading::read_policy;
 use running::counts_of;
+use running::read_within;
 use running::run_policy;
 use sets::clear;
 use sets::copy;
@@ -96,6 +97,32 @@ fn not_composed(number: u8, line: usize, place: usize) -> Composed
     }
 }
 
+// Compose with buffers that are large enough; the first 65,536 bytes of the memory are left as they fall.
+fn compose_within(f: &[u8], result: &mut [u8], w: &mut [u8]) -> Composed
+    requires { ⌜ (4096 ≤ length (now result)) × (65536 ≤ length (now w)) ⌝ }
+    ensures { λ r. ⌜ composedOf r (now (result .exit)) (cleared (now (w .entry))) ≡ Calls.compose (now (f .entry)) (now (result .entry)) (now (w .entry)) ⌝ }
+    ensures { λ _. ⌜ cleared (now (w .exit)) ≡ cleared (now (w .entry)) ⌝ }
+{
+    let r = read_within(f, w);
+    if r.number != 0 {
+        return not_composed(r.number, r.line, r.place);
+    }
+    let n = accesses(counts_of(r.state.counts));
+    let rounds = run_policy(w, r);
+    copy(w, result, n);
+    let permits = count(w, n, 2);
+    let undecided = count(w, n, 1);
+    Composed {
+        number: 0,
+        line: 0,
+        place: 0,
+        accesses: n,
+        permits,
+        undecided,
+        rounds,
+    }
+}
+
 pub fn compose(f: &[u8], result: &mut [u8], w: &mut [u8]) -> Composed
     ensures { λ r. ⌜ composedOf r (now (result .exit)) (now (w .exit)) ≡ Calls.compose (now (f .entry)) (now (result .entry)) (now (w .entry)) ⌝ }
     ensures { λ r. ⌜ Promised (now (f .entry)) (composeSays r (now (result .exit))) ⌝ }
@@ -106,26 +133,9 @@ pub fn compose(f: &[u8], result: &mut [u8], w: &mut [u8]) -> Composed
     if w.len() < 65536 {
         return not_composed(1, 0, 0);
     }
-    let r = read_policy(f, &mut w[57344..65536]);
-    if r.number != 0 {
-        clear(w);
-        return not_composed(r.number, r.line, r.place);
-    }
-    let n = accesses(counts_of(r.state.counts));
-    let rounds = run_policy(w, r);
-    copy(w, result, n);
-    let permits = count(w, n, 2);
-    let undecided = count(w, n, 1);
+    let r = compose_within(f, result, w);
     clear(w);
-    Composed {
-        number: 0,
-        line: 0,
-        place: 0,
-        accesses: n,
-        permits,
-        undecided,
-        rounds,
-    }
+    r
 }
 
 // ---- Decide
@@ -197,7 +207,7 @@ fn decide_within<'a>(f: &'a [u8], s: &'a [u8], o: &'a [u8], a: &'a [u8], w: &mut
     ensures { λ r. ⌜ decidedOf r (cleared (now (w .entry))) ≡ Calls.decide (now (f .entry)) (now (s .entry)) (now (o .entry)) (now (a .entry)) (now (w .entry)) ⌝ }
     ensures { λ _. ⌜ cleared (now (w .exit)) ≡ cleared (now (w .entry)) ⌝ }
 {
-    let r = read_policy(f, &mut w[57344..65536]);
+    let r = read_within(f, w);
     if r.number != 0 {
         return not_decided(r.number, r.line, r.place);
     }
