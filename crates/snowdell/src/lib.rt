@@ -103,12 +103,12 @@ fn compose_within(f: &[u8], result: &mut [u8], w: &mut [u8]) -> Composed
     ensures { λ r. ⌜ composedOf r (now (result .exit)) (cleared (now (w .entry))) ≡ Calls.compose (now (f .entry)) (now (result .entry)) (now (w .entry)) ⌝ }
     ensures { λ _. ⌜ cleared (now (w .exit)) ≡ cleared (now (w .entry)) ⌝ }
 {
-    let r = read_within(f, w);
-    if r.number != 0 {
-        return not_composed(r.number, r.line, r.place);
+    let read = read_within(f, w);
+    if read.number != 0 {
+        return not_composed(read.number, read.line, read.place);
     }
-    let n = accesses(counts_of(r.state.counts));
-    let rounds = run_policy(w, r);
+    let n = accesses(counts_of(read.state.counts));
+    let rounds = run_policy(w, read);
     copy(w, result, n);
     let permits = count(w, n, 2);
     let undecided = count(w, n, 1);
@@ -207,15 +207,15 @@ fn decide_within<'a>(f: &'a [u8], s: &'a [u8], o: &'a [u8], a: &'a [u8], w: &mut
     ensures { λ r. ⌜ decidedOf r (cleared (now (w .entry))) ≡ Calls.decide (now (f .entry)) (now (s .entry)) (now (o .entry)) (now (a .entry)) (now (w .entry)) ⌝ }
     ensures { λ _. ⌜ cleared (now (w .exit)) ≡ cleared (now (w .entry)) ⌝ }
 {
-    let r = read_within(f, w);
-    if r.number != 0 {
-        return not_decided(r.number, r.line, r.place);
+    let file = read_within(f, w);
+    if file.number != 0 {
+        return not_decided(file.number, file.line, file.place);
     }
-    let asked = ask_state(f, r.state, s, o, a);
+    let asked = ask_state(f, file.state, s, o, a);
     match asked {
         Asked::Unknown(place) => not_decided(15, 0, place),
         Asked::Access(at) => {
-            let rounds = run_policy(w, r);
+            let rounds = run_policy(w, file);
             let answer = w[at];
             Decided {
                 number: 0,
