@@ -37,6 +37,9 @@ accesses-requires c κs = search needs
 run-policy-requires : tie.Need-run-policy-requires
 run-policy-requires c κs = (subst (λ n. 65536 ≤ n) (sym (c .before .before .before .before .before .before .before .read-within .kept .1 .0)) (c .before .before .before .before .before .before .before .before .before .before .before .before .pre .1), record { file = (c .before .before .before .before .before .before .before .before .before .before .before .before .args .f .now); good = c .before .before .before .before .before .before .before .read-within .ensures .0 .yes (c .before .before .before .if1 .left) })
 
+returns-2 : tie.Need-returns-2
+returns-2 c = (read-all (c .before .before .before .before .before .before .before .before .before .before .before .before .before .before .before .before .before .before .before .before .before .before .before .before .args .f .now) (c .before .before .before .before .before .before .before .before .before .before .before .before .before .before .before .before .before .before .before .before .before .before .before .before .args .result .now) (c .before .before .before .before .before .before .before .before .before .before .before .before .before .before .before .before .before .before .before .before .before .before .before .before .args .w .now) (c .before .before .before .before .before .before .before .before .before .before .before .before .before .before .before .before .before .before .before .before .before .before .before .before .pre .0) (c .before .before .before .before .before .before .before .before .before .before .before .before .before .before .before .before .before .before .before .before .before .before .before .before .pre .1) (c .before .before .before .before .before .before .before .before .before .before .before .before .before .before .before .before .before .before .before .read-within .last .1 .0) (c .before .before .before .before .before .before .before .before .before .before .before .before .before .before .before .before .before .before .before .read-within .kept .1 .0) (c .before .before .before .before .before .before .before .before .before .before .before .before .before .before .before .before .before .before .before .read-within .result) (c .before .before .before .before .before .before .before .before .before .before .before .before .before .before .before .before .before .before .before .read-within .ensures .0 .yes (c .before .before .before .before .before .before .before .before .before .before .before .before .before .before .before .if1 .left)) (c .before .before .before .before .before .before .before .before .before .before .before .before .before .accesses .result) (c .before .before .before .before .before .before .before .before .before .before .before .before .before .accesses .ensures ∙ ap total (c .before .before .before .before .before .before .before .before .before .before .before .before .before .before .counts-of .ensures)) _ _ (c .before .before .before .before .before .before .before .before .before .before .before .run-policy .ensures (c .before .before .before .before .before .before .before .before .before .before .before .before .before .before .before .before .before .before .before .before .before .before .before .before .args .f .now) (c .before .before .before .before .before .before .before .before .before .before .before .before .before .before .before .before .before .before .before .read-within .ensures .0 .yes (c .before .before .before .before .before .before .before .before .before .before .before .before .before .before .before .if1 .left))) _ _ _ (c .before .before .before .before .before .before .copy .ensures) (c .before .before .count .ensures) (c .count2 .ensures), cleared-after _ _ _ _ (c .before .before .before .before .before .before .before .before .before .before .before .run-policy .ensures (c .before .before .before .before .before .before .before .before .before .before .before .before .before .before .before .before .before .before .before .before .before .before .before .before .args .f .now) (c .before .before .before .before .before .before .before .before .before .before .before .before .before .before .before .before .before .before .before .read-within .ensures .0 .yes (c .before .before .before .before .before .before .before .before .before .before .before .before .before .before .before .if1 .left))) ∙ c .before .before .before .before .before .before .before .before .before .before .before .before .before .before .before .before .before .before .before .read-within .ensures .1)
+
 copy-requires : tie.Need-copy-requires
 copy-requires c κs = (in-memory (c .before .before .before .before .before .before .before .before .before .before .before .before .before .before .before .before .before .args .f .now) (c .before .before .before .before .before .before .before .before .before .before .before .before .before .before .before .before .before .args .result .now) (c .before .before .before .before .before .before .before .before .before .before .before .before .before .before .before .before .before .args .w .now) (c .before .before .before .before .before .before .before .before .before .before .before .before .before .before .before .before .before .pre .0) (c .before .before .before .before .before .before .before .before .before .before .before .before .before .before .before .before .before .pre .1) (c .before .before .before .before .before .before .before .before .before .before .before .before .read-within .last .1 .0) (c .before .before .before .before .before .before .before .before .before .before .before .before .read-within .kept .1 .0) (c .before .before .before .before .before .before .before .before .before .before .before .before .read-within .result) (c .before .before .before .before .before .before .before .before .before .before .before .before .read-within .ensures .0 .yes (c .before .before .before .before .before .before .before .before .if1 .left)) (c .before .before .before .before .before .before .accesses .result) (c .before .before .before .before .before .before .accesses .ensures ∙ ap total (c .before .before .before .before .before .before .before .counts-of .ensures)) (c .before .before .before .before .run-policy .last .0) (c .before .before .before .before .run-policy .kept .0), in-result (c .before .before .before .before .before .before .before .before .before .before .before .before .before .before .before .before .before .args .f .now) (c .before .before .before .before .before .before .before .before .before .before .before .before .before .before .before .before .before .args .result .now) (c .before .before .before .before .before .before .before .before .before .before .before .before .before .before .before .before .before .args .w .now) (c .before .before .before .before .before .before .before .before .before .before .before .before .before .before .before .before .before .pre .0) (c .before .before .before .before .before .before .before .before .before .before .before .before .before .before .before .before .before .pre .1) (c .before .before .before .before .before .before .before .before .before .before .before .before .read-within .last .1 .0) (c .before .before .before .before .before .before .before .before .before .before .before .before .read-within .kept .1 .0) (c .before .before .before .before .before .before .before .before .before .before .before .before .read-within .result) (c .before .before .before .before .before .before .before .before .before .before .before .before .read-within .ensures .0 .yes (c .before .before .before .before .before .before .before .before .if1 .left)) (c .before .before .before .before .before .before .accesses .result) (c .before .before .before .before .before .before .accesses .ensures ∙ ap total (c .before .before .before .before .before .before .before .counts-of .ensures)))
 
@@ -51,9 +54,6 @@ same-length-2 c = c .before .before .before .before .before .before .copy .kept 
 
 same-length-3 : tie.Need-same-length-3
 same-length-3 c = c .before .before .before .before .before .before .before .before .before .before .before .run-policy .kept .0 ∙ (c .before .before .before .before .before .before .before .before .before .before .before .before .before .before .before .before .before .before .before .read-within .kept .1 .0)
-
-returns-2 : tie.Need-returns-2
-returns-2 c = (read-all (c .before .before .before .before .before .before .before .before .before .before .before .before .before .before .before .before .before .before .before .before .before .before .before .before .args .f .now) (c .before .before .before .before .before .before .before .before .before .before .before .before .before .before .before .before .before .before .before .before .before .before .before .before .args .result .now) (c .before .before .before .before .before .before .before .before .before .before .before .before .before .before .before .before .before .before .before .before .before .before .before .before .args .w .now) (c .before .before .before .before .before .before .before .before .before .before .before .before .before .before .before .before .before .before .before .before .before .before .before .before .pre .0) (c .before .before .before .before .before .before .before .before .before .before .before .before .before .before .before .before .before .before .before .before .before .before .before .before .pre .1) (c .before .before .before .before .before .before .before .before .before .before .before .before .before .before .before .before .before .before .before .read-within .last .1 .0) (c .before .before .before .before .before .before .before .before .before .before .before .before .before .before .before .before .before .before .before .read-within .kept .1 .0) (c .before .before .before .before .before .before .before .before .before .before .before .before .before .before .before .before .before .before .before .read-within .result) (c .before .before .before .before .before .before .before .before .before .before .before .before .before .before .before .before .before .before .before .read-within .ensures .0 .yes (c .before .before .before .before .before .before .before .before .before .before .before .before .before .before .before .if1 .left)) (c .before .before .before .before .before .before .before .before .before .before .before .before .before .accesses .result) (c .before .before .before .before .before .before .before .before .before .before .before .before .before .accesses .ensures ∙ ap total (c .before .before .before .before .before .before .before .before .before .before .before .before .before .before .counts-of .ensures)) _ _ (c .before .before .before .before .before .before .before .before .before .before .before .run-policy .ensures (c .before .before .before .before .before .before .before .before .before .before .before .before .before .before .before .before .before .before .before .before .before .before .before .before .args .f .now) (c .before .before .before .before .before .before .before .before .before .before .before .before .before .before .before .before .before .before .before .read-within .ensures .0 .yes (c .before .before .before .before .before .before .before .before .before .before .before .before .before .before .before .if1 .left))) _ _ _ (c .before .before .before .before .before .before .copy .ensures) (c .before .before .count .ensures) (c .count2 .ensures), cleared-after _ _ _ _ (c .before .before .before .before .before .before .before .before .before .before .before .run-policy .ensures (c .before .before .before .before .before .before .before .before .before .before .before .before .before .before .before .before .before .before .before .before .before .before .before .before .args .f .now) (c .before .before .before .before .before .before .before .before .before .before .before .before .before .before .before .before .before .before .before .read-within .ensures .0 .yes (c .before .before .before .before .before .before .before .before .before .before .before .before .before .before .before .if1 .left))) ∙ c .before .before .before .before .before .before .before .before .before .before .before .before .before .before .before .before .before .before .before .read-within .ensures .1)
 
 pub compose-within-spec : {M : Type 1} → statement M
 compose-within-spec =
