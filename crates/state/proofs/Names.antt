@@ -1,13 +1,13 @@
 -- The verdicts on S, O and A lines, T lines and P lines, by the ways through their code.
 use mathlib.Core.Path.{_≡_, refl, sym, ap, _∙_}
-use mathlib.Core.Bool.{Bool, true, false, not, _&&_, _||_}
+use mathlib.Core.Bool.{Bool, true, false, cond, not, _&&_, _||_}
 use mathlib.Core.List.{List, [], _∷_}
 use mathlib.Core.Option.{Option, none, some}
 use Prim.Native.Nat.{ℕ, zero, suc, _+_, _*_, _≤_, _<_}
 use native.Mathlib.Omega.{arith}
 use lib.ListN.{length, getD}
 use lib.Dec.{eqb, leb, ltb}
-use borrow.Author.Tests.{le-leb, lt-leb, eq-eqb, ne-eqb}
+use borrow.Author.Tests.{le-leb, lt-leb, leb-true, leb-false, eq-eqb, ne-eqb}
 use Rattle.algebra.specs.Sort.{Sort, subject, object, action}
 use Rattle.algebra.specs.Policy.{Rule}
 use Rattle.algebra.specs.Stored.{storedSort}
@@ -19,6 +19,7 @@ use Rattle.reader.specs.Line.{Line, memberLine, predicateLine, tableLine}
 use Rattle.reader.specs.Declarations.{Declared, sortGroup, tableAt, memberAt, predicateAt, count, groupOf}
 use Rattle.reader.specs.Expression.{lookup}
 use Rattle.reader.specs.Rows.{good, refuse, first, rows, outOfOrder, withoutRule, badCounts, most, tooMany, declaredAlready, isMember, notDeclared, grantsAway, twoSorts, expressionRows}
+use Rattle.rows.specs.First.{firstMet}
 use Rattle.state.specs.Standing.{NamesStand}
 use Rattle.state.specs.Judged.{lateOf, badCountsOf, MemberJudged, member-refused, member-passes, TableJudged, table-refused, table-passes, PredicateJudged}
 use Rattle.state.specs.declared.Marking.the-variants.{Unmarked, Known, Fresh}
@@ -171,6 +172,21 @@ module _ (f starts ends tags : List ℕ) (c : NameCounts) (d : Declared) (ns : N
           pub table-good : lookupIn f starts ends tags c table t ≡ none → TableJudged d t h 0
           unfolding declaredAlready found notDeclared grantsAway twoSorts expressionRows first
           table-good e = table-passes (past-11 d _ t-4 t-8 t-7 (rw (table-at e)) refl refl refl) (rw (ns .tables-many) at p7)
+
+    -- by the first row that is met
+    pub table-first : (late counts many there : Bool) → late ≡ lateOf group 4 → counts ≡ badCountsOf group 4 (c .subjects) (c .objects) (c .actions) → many ≡ leb 16 (c .tables)
+        → there ≡ found (lookupIn f starts ends tags c table t) → TableJudged d t h (firstMet late counts many there)
+    unfolding found
+    table-first true counts many there e4 e8 e7 e5 = table-4 (sym e4)
+    table-first false true many there e4 e8 e7 e5 = table-8 (sym e4) (sym e8)
+    table-first false false true there e4 e8 e7 e5 = table-7 (sym e4) (sym e8) (leb-true 16 (c .tables) (sym e7))
+    table-first false false false there e4 e8 e7 e5 = go (lookupIn f starts ends tags c table t) refl there e5
+      where
+        go : (x : Option ℕ) → lookupIn f starts ends tags c table t ≡ x → (b : Bool) → b ≡ found x → TableJudged d t h (cond b 5 0)
+        go none e true q = absurd (let z : _≡_ {A = ℕ} 0 1 = cc in omega arith)
+        go none e false q = table-good (sym e4) (sym e8) (leb-false 16 (c .tables) (sym e7)) e
+        go (some i) e true q = table-5 (sym e4) (sym e8) (leb-false 16 (c .tables) (sym e7)) e
+        go (some i) e false q = absurd (let z : _≡_ {A = ℕ} 0 1 = cc in omega arith)
 
   -- ---- P lines
   module _ (σ : Sort) (p m : List ℕ) where
