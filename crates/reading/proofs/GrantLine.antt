@@ -3,9 +3,10 @@ use mathlib.Core.Path.{_≡_, refl, sym, ap, subst, _∙_}
 use mathlib.Core.Bool.{Bool, true, false, not, _&&_}
 use mathlib.Core.List.{List}
 use mathlib.Core.Option.{Option, none, some}
-use Prim.Native.Nat.{ℕ, _+_, _*_, _<_, _≤_}
+use Prim.Native.Nat.{ℕ, _+_, _*_, _/_, _%_, _<_, _≤_}
 use native.Mathlib.Omega.{arith}
-use lib.ListN.{length}
+use lib.ListN.{length, set, drop}
+use lib.Seq.{drop-set-lt, drop-drop}
 use Rattle.grammar.specs.Lookup.{found, place}
 use Rattle.reader.specs.Line.{Line, grantLine}
 use Rattle.reader.specs.Declarations.{Declared, Table, tableAt, accessOf, groupOf}
@@ -56,3 +57,17 @@ module _ (f w : List ℕ) (st : State) (d : Declared) (S : Stands f w st d) (t s
         subst (λ (x : List ℕ). Stands f x st′ (add d l)) (sym ew)
         (subst (λ (x : State). Stands f (grantWritten w (st .grants) g) x (add d l)) (sym es)
         (grant-added f w st d S t s o a g fits (is-grant .1) (is-grant .2) (in-tables (is-grant .0)) (few-after f w st d S l (is-grant .0) (omega arith))))
+
+-- the bytes after the grants stay, with one grant more
+pub beyond-more : (w w₀ : List ℕ) (n g : ℕ) → drop (2 * n) w ≡ drop (2 * n) w₀ → (w′ : List ℕ) → w′ ≡ grantWritten w n g → drop (2 * (n + 1)) w′ ≡ drop (2 * (n + 1)) w₀
+unfolding grantWritten
+beyond-more w w₀ n g e w′ q =
+    ap (drop (2 * (n + 1))) q ∙ drop-set-lt (2 * (n + 1)) (set w (2 * n) (g % 256)) (2 * n + 1) (g / 256) (omega arith) ∙ drop-set-lt (2 * (n + 1)) w (2 * n) (g % 256) (omega arith)
+    ∙ two w ∙ ap (drop 2) e ∙ sym (two w₀)
+  where
+    two : (l : List ℕ) → drop (2 * (n + 1)) l ≡ drop 2 (drop (2 * n) l)
+    two l = let k : 2 * (n + 1) ≡ 2 * n + 2 = omega arith in ap (λ (i : ℕ). drop i l) k ∙ sym (drop-drop 2 (2 * n) l)
+
+-- and with as many
+pub beyond-same : (w w₀ : List ℕ) (n m : ℕ) → m ≡ n → drop (2 * n) w ≡ drop (2 * n) w₀ → drop (2 * m) w ≡ drop (2 * m) w₀
+beyond-same w w₀ n m e h = subst (λ (k : ℕ). drop (2 * k) w ≡ drop (2 * k) w₀) (sym e) h

@@ -141,11 +141,16 @@ module _ (f w : List ℕ) (st : State) (g : Goal) (at line r : ℕ) (F : File f)
     goal-is = λ q. absurd (ne (sym (add-group d l) ∙ q));
   }
 
+  pub other-grants : (p : Parsed) → Kept p → (n : Next) → LineRead f w d (lineOf f p) n → n .number ≡ 0 → n .state .grants ≡ st .grants
+  other-grants p k n L z =
+      let t = read-yes f w d (lineOf f p) n L z in
+      t .stands .all-grants ∙ granted-same d (t .line) (kept-group f p (t .line) k (t .is) .0) ∙ sym (R .stands .all-grants)
+
   pub other-yes : (p : Parsed) → Kept p → lineOf f p ≡ parse (slice at r f) → (n : Next) → LineRead f w d (lineOf f p) n → n .number ≡ 0 → Reached f w (n .state) g (r + 1) (line + 1)
   other-yes p k q n L z =
       let t = read-yes f w d (lineOf f p) n L z in
       let h = kept-group f p (t .line) k (t .is) in
-      let same = t .stands .all-grants ∙ granted-same d (t .line) (h .0) ∙ sym (R .stands .all-grants) in
+      let same = other-grants p k n L z in
       added (t .line) (sym q ∙ t .is) (t .is-good) (h .1) w (n .state) (t .stands) (let m = R .room in omega arith)
 
   -- a G line

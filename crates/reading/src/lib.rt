@@ -29,7 +29,7 @@ use state::table_line;
 ghost use mathlib.Core.Path.{_≡_};
 ghost use mathlib.Core.List.{List};
 ghost use Prim.Native.Nat.{ℕ, _+_, _*_, _≤_, _<_};
-ghost use lib.ListN.{length};
+ghost use lib.ListN.{length, drop};
 ghost use Rattle.algebra.specs.Stored.{storedSort};
 ghost use Rattle.reader.specs.Declarations.{Declared, start};
 ghost use Rattle.reader.specs.Line.{predicateLine};
@@ -202,10 +202,11 @@ fn put_grant(w: &mut [u8], i: usize, g: u16)
 
 // ---- the whole file
 
-// The grants go to the lent memory, two bytes each.
+// The grants go to the lent memory, two bytes each; the bytes after them are unchanged, on a refusal too.
 pub fn read_policy(f: &[u8], w: &mut [u8]) -> Reading
     requires { ⌜ length (now w) ≡ 8192 ⌝ }
     ensures { λ r. ⌜ ReadAs (now (f .entry)) (now (w .exit)) r ⌝ }
+    ensures { λ r. ⌜ drop (2 * r .state .grants) (now (w .exit)) ≡ drop (2 * r .state .grants) (now (w .entry)) ⌝ }
 {
     let mut st = empty();
     let mut goal = no_goal();

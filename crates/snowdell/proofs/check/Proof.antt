@@ -13,10 +13,10 @@ read-policy-requires : tie.Need-read-policy-requires
 read-policy-requires c κs = search needs
 
 returns : tie.Need-returns
-returns c = check-no _ _ _ _ (c .before .before .before .read-policy .ensures .no (c .if1 .taken))
+returns c = check-no _ _ _ _ (c .before .before .before .read-policy .ensures .0 .no (c .if1 .taken))
 
 returns-2 : tie.Need-returns-2
-returns-2 c = check-yes _ _ _ (c .before .before .before .before .read-policy .ensures .yes (c .before .if1 .left))
+returns-2 c = check-yes _ _ _ (c .before .before .before .before .read-policy .ensures .0 .yes (c .before .if1 .left))
 
 pub check-spec : {M : Type 1} → statement M
 check-spec =
