@@ -11,12 +11,13 @@ use lib.ListN.{length}
 use types.Run.{OneOf}
 use denote.Enum.Declared.{tagOf, declared}
 use Rattle.lines.proofs.line.Parsed.{enum}
-use Rattle.algebra.specs.Sort.{Sort, subject, object, action}
+use Rattle.algebra.specs.Sort.{Sort}
 use Rattle.algebra.specs.Stored.{storedSort}
 use Rattle.reader.specs.Line.{Line, memberLine, predicateLine, tableLine, grantLine, ruleLine, bodyLine, expressionLine}
-use Rattle.reader.specs.Declarations.{Declared, groupOf, sortGroup}
+use Rattle.reader.specs.Declarations.{Declared, groupOf}
 use Rattle.reader.specs.Rows.{good, refuse, first, rows}
 use Rattle.reader.specs.File.{judge, add}
+use Rattle.reader.proofs.Members.{sort-low}
 use Rattle.reader.proofs.Rows.{rows-number}
 use Rattle.lines.specs.Parsed.{lineOf}
 use Rattle.lines.specs.declared.line.Parsed.{Parsed}
@@ -98,12 +99,6 @@ wrong-form f w d st p h k = subst (λ o. LineRead f w d o (record { number = 3; 
 abbrev groupAt : Option Line → ℕ
 groupAt none = 0
 groupAt (some l) = groupOf l
-
-sort-low : (σ : Sort) → sortGroup σ < 3
-unfolding sortGroup
-sort-low subject = omega arith
-sort-low object = omega arith
-sort-low action = omega arith
 
 kept-low : (f : List ℕ) (p : Parsed) → Kept p → (groupAt (lineOf f p) ≡ 5 → ⊥) × (groupAt (lineOf f p) ≡ 7 → ⊥)
 unfolding groupOf
