@@ -1019,6 +1019,55 @@ fn expression<'a>(
     }
 }
 
+// ---- the reader over the expression
+
+// The expression's text, and the place reached in it.
+pub struct Reader<'a> {
+    pub text: &'a [u8],
+    pub at: usize,
+}
+
+// A reader at the text's first byte.
+fn start<'a>(t: &'a [u8]) -> Reader<'a>
+    ensures { λ r. ⌜ (r .text ≡ t .entry) × (r .at ≡ 0) ⌝ }
+{
+    Reader { text: t, at: 0 }
+}
+
+// Reads an expression at the reader's place.
+fn expression_here<'a>(
+    r: Reader<'a>,
+    allow: usize,
+    f: &'a [u8],
+    starts: &'a [u16],
+    ends: &'a [u16],
+    tags: &'a [u8],
+    counts: NameCounts,
+    p: Program,
+) -> Made
+    requires { ⌜ Sound (now f) (now starts) (now ends) (now tags) counts × (r .at ≤ length (now (r .text))) ⌝ }
+    ensures { λ m. ⌜ ExpressionAt (lookupIn (now (f .entry)) (now (starts .entry)) (now (ends .entry)) (now (tags .entry)) counts) (now (r .entry .text)) (r .entry .at) allow p (m .program) (m .answer) ⌝ }
+{
+    expression(r.text, r.at, allow, f, starts, ends, tags, counts, p)
+}
+
+// Reads an expression at the text's beginning. Its parameters are plain, so whoever calls it needs no reader.
+fn from_start<'a>(
+    t: &'a [u8],
+    allow: usize,
+    f: &'a [u8],
+    starts: &'a [u16],
+    ends: &'a [u16],
+    tags: &'a [u8],
+    counts: NameCounts,
+    p: Program,
+) -> Made
+    requires { ⌜ Sound (now f) (now starts) (now ends) (now tags) counts ⌝ }
+    ensures { λ m. ⌜ ExpressionAt (lookupIn (now (f .entry)) (now (starts .entry)) (now (ends .entry)) (now (tags .entry)) counts) (now (t .entry)) 0 allow p (m .program) (m .answer) ⌝ }
+{
+    expression_here(start(t), allow, f, starts, ends, tags, counts, p)
+}
+
 // Reads a whole text. A good answer is its length, and the program is that of its tree; a bad one is the place where it goes wrong.
 pub fn read<'a>(
     t: &'a [u8],
@@ -1046,7 +1095,7 @@ pub fn read<'a>(
         held: 0,
         missing: Place::Nowhere,
     };
-    let m = expression(t, 0, 32, f, starts, ends, tags, counts, p);
+    let m = from_start(t, 32, f, starts, ends, tags, counts, p);
     let k = m.answer;
     let q = m.program;
     match k {
