@@ -1,4 +1,7 @@
 // Reading an expression: it is read, its names are looked up, and the postfix program of its tree is made; or the place of its first wrong byte.
+mod text_reader;
+
+use text_reader::from_start;
 ghost use mathlib.Core.Path.{_≡_};
 ghost use mathlib.Core.Bool.{true};
 ghost use Prim.Native.Nat.{_≤_, _<_, _-_, max};
@@ -1017,55 +1020,6 @@ fn expression<'a>(
         },
         Parsed::Good(n) => more(t, n, allow, f, starts, ends, tags, counts, q),
     }
-}
-
-// ---- the reader over the expression
-
-// The expression's text, and the place reached in it.
-pub struct Reader<'a> {
-    pub text: &'a [u8],
-    pub at: usize,
-}
-
-// A reader at the text's first byte.
-fn start<'a>(t: &'a [u8]) -> Reader<'a>
-    ensures { λ r. ⌜ (r .text ≡ t .entry) × (r .at ≡ 0) ⌝ }
-{
-    Reader { text: t, at: 0 }
-}
-
-// Reads an expression at the reader's place.
-fn expression_here<'a>(
-    r: Reader<'a>,
-    allow: usize,
-    f: &'a [u8],
-    starts: &'a [u16],
-    ends: &'a [u16],
-    tags: &'a [u8],
-    counts: NameCounts,
-    p: Program,
-) -> Made
-    requires { ⌜ Sound (now f) (now starts) (now ends) (now tags) counts × (r .at ≤ length (now (r .text))) ⌝ }
-    ensures { λ m. ⌜ ExpressionAt (lookupIn (now (f .entry)) (now (starts .entry)) (now (ends .entry)) (now (tags .entry)) counts) (now (r .entry .text)) (r .entry .at) allow p (m .program) (m .answer) ⌝ }
-{
-    expression(r.text, r.at, allow, f, starts, ends, tags, counts, p)
-}
-
-// Reads an expression at the text's beginning. Its parameters are plain, so whoever calls it needs no reader.
-fn from_start<'a>(
-    t: &'a [u8],
-    allow: usize,
-    f: &'a [u8],
-    starts: &'a [u16],
-    ends: &'a [u16],
-    tags: &'a [u8],
-    counts: NameCounts,
-    p: Program,
-) -> Made
-    requires { ⌜ Sound (now f) (now starts) (now ends) (now tags) counts ⌝ }
-    ensures { λ m. ⌜ ExpressionAt (lookupIn (now (f .entry)) (now (starts .entry)) (now (ends .entry)) (now (tags .entry)) counts) (now (t .entry)) 0 allow p (m .program) (m .answer) ⌝ }
-{
-    expression_here(start(t), allow, f, starts, ends, tags, counts, p)
 }
 
 // Reads a whole text. A good answer is its length, and the program is that of its tree; a bad one is the place where it goes wrong.

@@ -1,4 +1,4 @@
--- `expressions::expression_here` meets its contract: a walk of its MIR, by hand. The reader is taken apart, and `expression` is called on the text and the place, with all else as it was passed. All that the proof knows of `expression` is that it meets its contract.
+-- `expressions::text_reader::expression_here` meets its contract: a walk of its MIR, by hand. The reader is taken apart, and `expression` is called on the text and the place, with all else as it was passed. All that the proof knows of `expression` is that it meets its contract.
 -- `expression` takes the reader's fields in their order, and then what stands after the reader here: so what the fields own, put before what the rest owns, is what it asks. Nothing is had of the parameters at exit, since the contract says nothing of them.
 -- Assumes nothing.
 use mathlib.Core.Path.{_≡_, refl}
@@ -44,12 +44,12 @@ use denote.Exit.{yes}
 use denote.Triple.Clauses.{ensured, lasts}
 use Rattle.expressions.specs.Contract.{ExpressionAt}
 use Rattle.expressions.specs.Entries.{Sound, lookupIn}
-use Rattle.expressions.specs.declared.Reader.{Reader}
+use Rattle.expressions.specs.declared.text_reader.Reader.{Reader}
 use Rattle.expressions.specs.declared.NameCounts.{NameCounts}
 use Rattle.expressions.specs.declared.Program.{Program}
 use Rattle.expressions.specs.declared.Made.{Made}
-use Rattle.expressions.proofs.Reader as T
-use Rattle.expressions.proofs.Reader.Laws as T′
+use Rattle.expressions.proofs.text_reader.Reader as T
+use Rattle.expressions.proofs.text_reader.Reader.Laws as T′
 use Rattle.expressions.proofs.NameCounts as N
 use Rattle.expressions.proofs.NameCounts.Laws as N′
 use Rattle.expressions.proofs.Program as P
@@ -60,10 +60,10 @@ use Rattle.expressions.proofs.expression as expression
 use Rattle.expressions.proofs.expression.Symbol as expression-def
 use Rattle.expressions.proofs.expression.Symbol.{name as #expressions·expression}
 use Rattle.expressions.proofs.expression.Met as expression-thm
-use Rattle.expressions.proofs.expression_here.Key.{name as #expressions·expression-here}
-use Rattle.expressions.proofs.expression_here as here
-use Rattle.expressions.proofs.expression_here.Statement as stated
-use Rattle.expressions.proofs.expression_here.Code as code
+use Rattle.expressions.proofs.text_reader.expression_here.Key.{name as #expressions·text-reader·expression-here}
+use Rattle.expressions.proofs.text_reader.expression_here as here
+use Rattle.expressions.proofs.text_reader.expression_here.Statement as stated
+use Rattle.expressions.proofs.text_reader.expression_here.Code as code
 
 -- the struct's type, over the signature's lifetimes
 abbrev B : Lfts 1 → RattleType
@@ -202,6 +202,6 @@ pub expression-here-spec : {M : Type 1} → stated.statement M
 unfolding code.routine tablesOf
 expression-here-spec 𝓤 H 𝓜 𝓖 𝓡 =
     entered 𝓤 H (tripleOf 𝓤 H (𝓖 .A) here.signature (here.spec 𝓤 H (𝓖 .A) (𝓜 .mem) (𝓡 .run)))
-    (tables 𝓤 H 𝓜 𝓡 code.env .C) (tables 𝓤 H 𝓜 𝓡 code.env .Λ) #expressions·expression-here code.function (code.unfolded 𝓤 H 𝓜 𝓡)
+    (tables 𝓤 H 𝓜 𝓡 code.env .C) (tables 𝓤 H 𝓜 𝓡 code.env .Λ) #expressions·text-reader·expression-here code.function (code.unfolded 𝓤 H 𝓜 𝓡)
     (here-meets 𝓤 H (𝓖 .A) (givenOf 𝓤 H 𝓜 𝓖) (𝓜 .mem) (𝓡 .run) (tablesOf 𝓤 H 𝓜 (tables 𝓤 H 𝓜 𝓡 code.env))
     (cited 𝓤 H (Expression 𝓤 H (𝓖 .A) (𝓜 .mem) (𝓡 .run)) 𝓜 𝓡 code.env #expressions·expression expression-def.routine code.calls-expressions·expression (expression-thm.met 𝓤 H 𝓜 𝓖 𝓡)))

@@ -1,4 +1,4 @@
--- `expressions::start` meets its contract: a walk of its MIR, by hand. A `Reader` is made of the slice passed and 0, in the result's local.
+-- `expressions::text_reader::start` meets its contract: a walk of its MIR, by hand. A `Reader` is made of the slice passed and 0, in the result's local.
 -- A `&[u8]` is Copy, so what it owns is had twice: once for t at exit, and once inside the result, beside the facts of at.
 -- Assumes nothing.
 use mathlib.Core.Path.{refl}
@@ -35,13 +35,13 @@ use denote.Triple.Spec.{Meets, tripleOf}
 use denote.Triple.Table.{entered}
 use denote.Triple.Walked.{says, Stays, stay-none-slice, walkOf, goes-none-slice, Walks, ends-at, walked, walk-meets}
 use denote.Exit.{yes}
-use Rattle.expressions.specs.declared.Reader.{Reader}
-use Rattle.expressions.proofs.Reader as T
-use Rattle.expressions.proofs.Reader.Laws as T′
-use Rattle.expressions.proofs.start.Key.{name as #expressions·start}
-use Rattle.expressions.proofs.start as start
-use Rattle.expressions.proofs.start.Statement as stated
-use Rattle.expressions.proofs.start.Code as code
+use Rattle.expressions.specs.declared.text_reader.Reader.{Reader}
+use Rattle.expressions.proofs.text_reader.Reader as T
+use Rattle.expressions.proofs.text_reader.Reader.Laws as T′
+use Rattle.expressions.proofs.text_reader.start.Key.{name as #expressions·text-reader·start}
+use Rattle.expressions.proofs.text_reader.start as start
+use Rattle.expressions.proofs.text_reader.start.Statement as stated
+use Rattle.expressions.proofs.text_reader.start.Code as code
 
 abbrev stayed : Stays (start.ended .signature .params) (start.ended .kept)
 stayed = (stay-none-slice (0 ∷ []) tt (plain (λ _. u8)) yes, tt)
@@ -95,5 +95,5 @@ pub start-spec : {M : Type 1} → stated.statement M
 unfolding code.routine tablesOf
 start-spec 𝓤 H 𝓜 𝓖 𝓡 =
     entered 𝓤 H (tripleOf 𝓤 H (𝓖 .A) start.signature (start.spec 𝓤 H (𝓖 .A) (𝓜 .mem) (𝓡 .run)))
-    (tables 𝓤 H 𝓜 𝓡 code.env .C) (tables 𝓤 H 𝓜 𝓡 code.env .Λ) #expressions·start code.function (code.unfolded 𝓤 H 𝓜 𝓡)
+    (tables 𝓤 H 𝓜 𝓡 code.env .C) (tables 𝓤 H 𝓜 𝓡 code.env .Λ) #expressions·text-reader·start code.function (code.unfolded 𝓤 H 𝓜 𝓡)
     (start-meets 𝓤 H (𝓖 .A) (givenOf 𝓤 H 𝓜 𝓖) (𝓜 .mem) (𝓡 .run) (tablesOf 𝓤 H 𝓜 (tables 𝓤 H 𝓜 𝓡 code.env)))

@@ -1,4 +1,4 @@
--- `expressions::from_start` meets its contract: a walk of its MIR, by hand. The reader that `start` returns is held in a local and passed on to `expression_here`, with all else as it was passed. All that the proof knows of the two is that each meets its contract.
+-- `expressions::text_reader::from_start` meets its contract: a walk of its MIR, by hand. The reader that `start` returns is held in a local and passed on to `expression_here`, with all else as it was passed. All that the proof knows of the two is that each meets its contract.
 -- By its contract, what `start` returns is a record that is known whole: the text, at the place 0. In a local of a body MIR erases the lifetime of the struct's type, so the machine value is shown to have the type at `erased`: what the struct owns does not say the lifetime's name.
 -- Nothing is had of the parameters at exit, since the contract says nothing of them.
 -- Assumes nothing.
@@ -42,30 +42,30 @@ use denote.Exit.{yes}
 use denote.Triple.Clauses.{ensured, lasts}
 use Rattle.expressions.specs.Contract.{ExpressionAt}
 use Rattle.expressions.specs.Entries.{Sound, lookupIn}
-use Rattle.expressions.specs.declared.Reader.{Reader}
+use Rattle.expressions.specs.declared.text_reader.Reader.{Reader}
 use Rattle.expressions.specs.declared.NameCounts.{NameCounts}
 use Rattle.expressions.specs.declared.Program.{Program}
 use Rattle.expressions.specs.declared.Made.{Made}
-use Rattle.expressions.proofs.Reader as T
-use Rattle.expressions.proofs.Reader.Laws as T′
+use Rattle.expressions.proofs.text_reader.Reader as T
+use Rattle.expressions.proofs.text_reader.Reader.Laws as T′
 use Rattle.expressions.proofs.NameCounts as N
 use Rattle.expressions.proofs.NameCounts.Laws as N′
 use Rattle.expressions.proofs.Program as P
 use Rattle.expressions.proofs.Program.Laws as P′
 use Rattle.expressions.proofs.Made as R
 use Rattle.expressions.proofs.Made.Laws as R′
-use Rattle.expressions.proofs.start as start
-use Rattle.expressions.proofs.start.Symbol as start-def
-use Rattle.expressions.proofs.start.Symbol.{name as #expressions·start}
-use Rattle.expressions.proofs.start.Met as start-thm
-use Rattle.expressions.proofs.expression_here as here
-use Rattle.expressions.proofs.expression_here.Symbol as here-def
-use Rattle.expressions.proofs.expression_here.Symbol.{name as #expressions·expression-here}
-use Rattle.expressions.proofs.expression_here.Met as here-thm
-use Rattle.expressions.proofs.from_start.Key.{name as #expressions·from-start}
-use Rattle.expressions.proofs.from_start as from-start
-use Rattle.expressions.proofs.from_start.Statement as stated
-use Rattle.expressions.proofs.from_start.Code as code
+use Rattle.expressions.proofs.text_reader.start as start
+use Rattle.expressions.proofs.text_reader.start.Symbol as start-def
+use Rattle.expressions.proofs.text_reader.start.Symbol.{name as #expressions·text-reader·start}
+use Rattle.expressions.proofs.text_reader.start.Met as start-thm
+use Rattle.expressions.proofs.text_reader.expression_here as here
+use Rattle.expressions.proofs.text_reader.expression_here.Symbol as here-def
+use Rattle.expressions.proofs.text_reader.expression_here.Symbol.{name as #expressions·text-reader·expression-here}
+use Rattle.expressions.proofs.text_reader.expression_here.Met as here-thm
+use Rattle.expressions.proofs.text_reader.from_start.Key.{name as #expressions·text-reader·from-start}
+use Rattle.expressions.proofs.text_reader.from_start as from-start
+use Rattle.expressions.proofs.text_reader.from_start.Statement as stated
+use Rattle.expressions.proofs.text_reader.from_start.Code as code
 
 -- the struct's type, over the signature's lifetimes
 abbrev B : Lfts 1 → RattleType
@@ -162,7 +162,7 @@ module _ {M : Type 1} (𝓤 : URA M) (H : Heap 𝓤) (A : Atoms 𝓤) (W : Given
       suffices ! _ (ends-at 𝓤 H A from-start.ended stayed (from-start.clauses 𝓤 H A mem run) W (((κ, tt), (q, tt), tt, a, vals), tt) u m (tt, (tt, (tt, (tt, (tt, (tt, (tt, (tt, tt)))))))) (tt, (tt, (tt, (tt, (tt, (tt, (tt, (tt, tt))))))))) $ says ! e $
       move ! (1 ∷ []) $ frame ! $ nothing ! $ nothing ! $ fjoin ! $ nothing ! $ fjoin ! $ nothing ! $ fjoin ! $ nothing ! $ fjoin ! $ nothing ! $ fjoin ! $ nothing ! $ fjoin ! $ nothing ! $ fjoin ! $ nothing ! $ fjoin ! $ frame ! $ done !
 
-  module _ (C : Calls 𝓤 H) (Λ : Loops 𝓤 H) (fm : FmC 𝓤 H (W .laws) C) (known-start : Triple 𝓤 (C #expressions·start) (Start 𝓤 H A mem run)) (known-here : Triple 𝓤 (C #expressions·expression-here) (Here 𝓤 H A mem run)) where
+  module _ (C : Calls 𝓤 H) (Λ : Loops 𝓤 H) (fm : FmC 𝓤 H (W .laws) C) (known-start : Triple 𝓤 (C #expressions·text-reader·start) (Start 𝓤 H A mem run)) (known-here : Triple 𝓤 (C #expressions·text-reader·expression-here) (Here 𝓤 H A mem run)) where
     walk : Ok → Is (ShrSlice (named 0) κ u8) t (v t ∷ []) → n < 2 ^ 64 → Is (ShrSlice (named 0) κ u8) f (v f ∷ []) → Is (ShrSlice (named 0) κ u16) ss (v ss ∷ []) → Is (ShrSlice (named 0) κ u16) es (v es ∷ []) → Is (ShrSlice (named 0) κ u8) ts (v ts ∷ [])
         → Holds (hasTy N′.mir wc) × WT wc → Holds (hasTy P′.mir wp) × WT wp
         → ent 𝓤 (onEntry 𝓤 H A from-start.signature (κ, tt) (q, tt) a vals) (WpFn 𝓤 H C Λ code.function (v t ∷ vint w64 n ∷ v f ∷ v ss ∷ v es ∷ v ts ∷ wc ∷ wp ∷ []) Post)
@@ -196,7 +196,7 @@ module _ {M : Type 1} (𝓤 : URA M) (H : Heap 𝓤) (A : Atoms 𝓤) (W : Given
         move ! (10 ∷ 11 ∷ []) $ free1 ! $ move ! (8 ∷ 9 ∷ []) $ free1 ! $ move ! (6 ∷ 7 ∷ []) $ free1 ! $ move ! (4 ∷ 5 ∷ []) $ free1 ! $ move ! (2 ∷ 3 ∷ []) $ free1 ! $ free0 ! $ by ! (exits m u′ e′)))))))))))))))))))
 
 module _ {M : Type 1} (𝓤 : URA M) (H : Heap 𝓤) (A : Atoms 𝓤) (W : Given 𝓤 H A) (mem : Memory → SProp 𝓤) (run : Routine → Fun 𝓤) where
-  from-start-walks : (C : Calls 𝓤 H) (Λ : Loops 𝓤 H) → FmC 𝓤 H (W .laws) C → Triple 𝓤 (C #expressions·start) (Start 𝓤 H A mem run) → Triple 𝓤 (C #expressions·expression-here) (Here 𝓤 H A mem run)
+  from-start-walks : (C : Calls 𝓤 H) (Λ : Loops 𝓤 H) → FmC 𝓤 H (W .laws) C → Triple 𝓤 (C #expressions·text-reader·start) (Start 𝓤 H A mem run) → Triple 𝓤 (C #expressions·text-reader·expression-here) (Here 𝓤 H A mem run)
       → Walks 𝓤 H A from-start.ended stayed (WpFn 𝓤 H C Λ code.function) (from-start.clauses 𝓤 H A mem run)
   from-start-walks C Λ fm known-start known-here = walked 𝓤 H A from-start.ended stayed (from-start.clauses 𝓤 H A mem run) (WpFn 𝓤 H C Λ code.function)
       (λ κs. (slice-vals, (uint-vals w64, (slice-vals, (slice-vals, (slice-vals, (slice-vals, (LL.vals N.the-type N′.the-laws, (LL.vals P.the-type P′.the-laws, tt)))))))))
@@ -211,7 +211,7 @@ module _ {M : Type 1} (𝓤 : URA M) (H : Heap 𝓤) (A : Atoms 𝓤) (W : Given
   gone = (goes-dropped 𝓤 H A W 1 bytes yes (λ κs x f. refl), (goes-dropped 𝓤 H A W 1 (plain (λ _. usize)) yes (λ κs x f. refl), (goes-dropped 𝓤 H A W 1 bytes yes (λ κs x f. refl), (goes-dropped 𝓤 H A W 1 halves yes (λ κs x f. refl), (goes-dropped 𝓤 H A W 1 halves yes (λ κs x f. refl), (goes-dropped 𝓤 H A W 1 bytes yes (λ κs x f. refl), (goes-dropped 𝓤 H A W 1 (plain (λ _. N.the-row)) yes (λ κs x f. refl), (goes-dropped 𝓤 H A W 1 (plain (λ _. P.the-row)) yes (λ κs x f. refl), tt))))))))
 
 from-start-meets : {M : Type 1} (𝓤 : URA M) (H : Heap 𝓤) (A : Atoms 𝓤) (W : Given 𝓤 H A) (mem : Memory → SProp 𝓤) (run : Routine → Fun 𝓤) (𝓣 : Tables 𝓤 H)
-    → Triple 𝓤 (𝓣 .C #expressions·start) (Start 𝓤 H A mem run) → Triple 𝓤 (𝓣 .C #expressions·expression-here) (Here 𝓤 H A mem run)
+    → Triple 𝓤 (𝓣 .C #expressions·text-reader·start) (Start 𝓤 H A mem run) → Triple 𝓤 (𝓣 .C #expressions·text-reader·expression-here) (Here 𝓤 H A mem run)
     → Meets 𝓤 H A from-start.signature (WpFn 𝓤 H (𝓣 .C) (𝓣 .Λ) code.function) (from-start.spec 𝓤 H A mem run)
 from-start-meets 𝓤 H A W mem run 𝓣 known-start known-here = walk-meets 𝓤 H A from-start.ended stayed W (gone 𝓤 H A W mem run) (from-start.clauses 𝓤 H A mem run) (WpFn 𝓤 H (𝓣 .C) (𝓣 .Λ) code.function) (WpFn-mono 𝓤 H (W .laws) 𝓣 code.function)
     (from-start-walks 𝓤 H A W mem run (𝓣 .C) (𝓣 .Λ) (fmOf 𝓤 H (W .laws) 𝓣) known-start known-here)
@@ -220,7 +220,7 @@ pub from-start-spec : {M : Type 1} → stated.statement M
 unfolding code.routine tablesOf
 from-start-spec 𝓤 H 𝓜 𝓖 𝓡 =
     entered 𝓤 H (tripleOf 𝓤 H (𝓖 .A) from-start.signature (from-start.spec 𝓤 H (𝓖 .A) (𝓜 .mem) (𝓡 .run)))
-    (tables 𝓤 H 𝓜 𝓡 code.env .C) (tables 𝓤 H 𝓜 𝓡 code.env .Λ) #expressions·from-start code.function (code.unfolded 𝓤 H 𝓜 𝓡)
+    (tables 𝓤 H 𝓜 𝓡 code.env .C) (tables 𝓤 H 𝓜 𝓡 code.env .Λ) #expressions·text-reader·from-start code.function (code.unfolded 𝓤 H 𝓜 𝓡)
     (from-start-meets 𝓤 H (𝓖 .A) (givenOf 𝓤 H 𝓜 𝓖) (𝓜 .mem) (𝓡 .run) (tablesOf 𝓤 H 𝓜 (tables 𝓤 H 𝓜 𝓡 code.env))
-    (cited 𝓤 H (Start 𝓤 H (𝓖 .A) (𝓜 .mem) (𝓡 .run)) 𝓜 𝓡 code.env #expressions·start start-def.routine code.calls-expressions·start (start-thm.met 𝓤 H 𝓜 𝓖 𝓡))
-    (cited 𝓤 H (Here 𝓤 H (𝓖 .A) (𝓜 .mem) (𝓡 .run)) 𝓜 𝓡 code.env #expressions·expression-here here-def.routine code.calls-expressions·expression-here (here-thm.met 𝓤 H 𝓜 𝓖 𝓡)))
+    (cited 𝓤 H (Start 𝓤 H (𝓖 .A) (𝓜 .mem) (𝓡 .run)) 𝓜 𝓡 code.env #expressions·text-reader·start start-def.routine code.calls-expressions·text-reader·start (start-thm.met 𝓤 H 𝓜 𝓖 𝓡))
+    (cited 𝓤 H (Here 𝓤 H (𝓖 .A) (𝓜 .mem) (𝓡 .run)) 𝓜 𝓡 code.env #expressions·text-reader·expression-here here-def.routine code.calls-expressions·text-reader·expression-here (here-thm.met 𝓤 H 𝓜 𝓖 𝓡)))
