@@ -4,11 +4,14 @@ use mathlib.Core.List.{List}
 use mathlib.Core.Option.{Option, none, some}
 use Prim.Native.Nat.{ℕ, _+_, _≤_, _<_, max}
 use lib.ListN.{set}
-use borrow.Author.Tests.{lt-ltb, le-ltb}
+use borrow.Author.Tests.{lt-ltb, le-ltb, leb-true}
+use lib.Dec.{leb}
+use mathlib.Core.Bool.{Bool, true, false, _&&_, false≢true}
+use Rattle.algebra.proofs.Bool.{and-left, and-right}
 use Rattle.grammar.specs.Names.{Kind}
 use Rattle.grammar.specs.Lookup.{place}
 use Rattle.expressions.specs.Entries.{foundOf}
-use Rattle.expressions.specs.Cells.{countedTo, operatorsAfter, heightAfter, stored, firstPlace, placeAfter, lacking, noted, withNumber, emitName}
+use Rattle.expressions.specs.Cells.{countedTo, operatorsAfter, heightAfter, stored, firstPlace, placeAfter, isPlace, lacking, noted, withNumber, emitName}
 use Rattle.expressions.specs.declared.Found.{Found}
 use Rattle.expressions.specs.declared.Found.the-variants.{At as At-number, Nothing}
 use Rattle.expressions.specs.declared.Cell.{Cell}
@@ -55,9 +58,26 @@ unfolding noted lacking placeAfter
 noted-is none i p = refl
 noted-is (some m) i p = refl
 
+-- a full program that lacks a name, whatever number the next one has
+settled-is : (o : Option ℕ) (i : ℕ) (p : Program) → isPlace (p .missing) ≡ true → noted o i p ≡ p
+unfolding noted lacking firstPlace
+settled-is (some m) i p e = refl
+settled-is none i p e = go (p .missing) refl e
+  where
+    go : (m : Place) → p .missing ≡ m → isPlace m ≡ true → lacking p i ≡ p
+    go (At j) q h = rw q
+    go Nowhere q h = absurd (false≢true h)
+
+pub name-settled : (number : Kind → List ℕ → Option ℕ) (k : Kind) (n : List ℕ) (i : ℕ) (c : Cell) (p : Program) {h e o : ℕ} → (leb 193 (p .used) && isPlace (p .missing)) ≡ true
+    → h ≡ heightAfter (p .height) (c .kind) → e ≡ max (p .held) h → o ≡ operatorsAfter (p .operators) (c .kind)
+    → _≡_ {A = Program} record { cells = p .cells; used = p .used; operators = o; height = h; held = e; missing = p .missing } (emitName number k n i c p)
+unfolding emitName
+name-settled number k n i c p s x y z =
+    put-full p (withNumber c (place (number k n))) x y z (leb-true 193 (p .used) (and-left (leb 193 (p .used)) (isPlace (p .missing)) s)) ∙ ap (λ (q : Program). stored q (withNumber c (place (number k n)))) (sym (settled-is (number k n) i p (and-right (leb 193 (p .used)) (isPlace (p .missing)) s)))
+
 module _ (number : Kind → List ℕ → Option ℕ) (k : Kind) (n : List ℕ) (i : ℕ) (c d : Cell) (p : Program) {v : Option ℕ} {m h e o : ℕ} {l : Place} (found-is : v ≡ number k n)
     (number-is : m ≡ place v) (cell-is : d ≡ withNumber c m) (place-is : l ≡ placeAfter (p .missing) v i)
-    (x : h ≡ heightAfter (p .height) (d .kind)) (y : e ≡ max (p .held) h) (z : o ≡ operatorsAfter (p .operators) (d .kind)) where
+    (x₀ : h ≡ heightAfter (p .height) (c .kind)) (y : e ≡ max (p .held) h) (z₀ : o ≡ operatorsAfter (p .operators) (c .kind)) where
   abbrev q : Program
   q = record { cells = p .cells; used = p .used; operators = p .operators; height = p .height; held = p .held; missing = l }
 
@@ -67,6 +87,12 @@ module _ (number : Kind → List ℕ → Option ℕ) (k : Kind) (n : List ℕ) (
 
   d-is : d ≡ withNumber c (place (number k n))
   d-is = cell-is ∙ ap (withNumber c) (number-is ∙ ap place found-is)
+
+  x : h ≡ heightAfter (p .height) (d .kind)
+  x = x₀ ∙ ap (λ (w : Cell). heightAfter (p .height) (w .kind)) (sym cell-is)
+
+  z : o ≡ operatorsAfter (p .operators) (d .kind)
+  z = z₀ ∙ ap (λ (w : Cell). operatorsAfter (p .operators) (w .kind)) (sym cell-is)
 
   after : stored q d ≡ emitName number k n i c p
   unfolding emitName

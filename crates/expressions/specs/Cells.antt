@@ -1,6 +1,6 @@
 -- The postfix program that a reading yields: its cells, its counts, and the first name that is not declared.
 use mathlib.Core.Path.{_≡_}
-use mathlib.Core.Bool.{cond}
+use mathlib.Core.Bool.{Bool, true, false, cond}
 use mathlib.Core.List.{List, map}
 use mathlib.Core.Option.{Option, none, some}
 use Prim.Native.Nat.{ℕ, _+_, _-_, _≤_, _<_, max, min}
@@ -87,6 +87,10 @@ stored p c =
 abbrev pub placeOf : Place → Option ℕ
 placeOf (At i) = some i
 placeOf Nowhere = none
+
+abbrev pub isPlace : Place → Bool
+isPlace (At i) = true
+isPlace Nowhere = false
 
 unfoldable pub firstPlace : Place → ℕ → Place
 firstPlace (At i) j = At i

@@ -3,13 +3,14 @@ mod text_reader;
 
 use text_reader::from_start;
 ghost use mathlib.Core.Path.{_≡_};
-ghost use mathlib.Core.Bool.{true};
+ghost use mathlib.Core.Bool.{true, _&&_};
 ghost use Prim.Native.Nat.{_≤_, _<_, _-_, max};
+ghost use lib.Dec.{leb};
 ghost use lib.ListN.{length, getD};
 ghost use lib.Seq.{slice};
 ghost use Rattle.algebra.specs.Stored.{storedSort};
 ghost use Rattle.grammar.specs.Name.{isLetter, isNameByte, sortByte, sortWord};
-ghost use Rattle.expressions.specs.Cells.{countedTo, operatorsAfter, heightAfter, stored, firstPlace, placeAfter, lacking, withNumber, emitName};
+ghost use Rattle.expressions.specs.Cells.{countedTo, operatorsAfter, heightAfter, stored, firstPlace, placeAfter, isPlace, lacking, withNumber, emitName};
 ghost use Rattle.expressions.specs.Contract.{sortCode, signCode, suffixByte, Word, Name, Compared, MemberScope, PredicateScope, ScopeAt, SuffixAt, SuffixesAt, PrimaryAt, FactorAt, MoreAt, ExpressionAt, PartAt, OverrideAt, Answer};
 ghost use Rattle.grammar.specs.Lookup.{same, position, place};
 ghost use Rattle.expressions.specs.Entries.{sortNumber, entryAt, entries, isTagged, isEntry, Group, Sound, spanOf, lookupIn, foundOf, kindOf};
@@ -697,6 +698,19 @@ fn missing_after(m: Place, n: Found, at: usize) -> Place
     }
 }
 
+// Whether names change nothing more: the program is full, and one is missing already.
+fn is_settled(used: usize, m: Place) -> bool
+    ensures { λ r. ⌜ r ≡ (leb 193 used && isPlace m) ⌝ }
+{
+    if used < 193 {
+        return false;
+    }
+    match m {
+        Place::At(i) => true,
+        Place::Nowhere => false,
+    }
+}
+
 // The program is changed in place: an expression may have thousands of suffixes.
 fn suffixes<'a>(
     t: &'a [u8],
@@ -725,13 +739,16 @@ fn suffixes<'a>(
             ScopeRead::Scoped(x) => {
                 let name = x.name;
                 let unnumbered = x.cell;
+                q.height = height_after(q.height, unnumbered.kind);
+                q.held = larger(q.held, q.height);
+                q.operators = operators_after(q.operators, unnumbered.kind);
+                i = x.next;
+                if is_settled(q.used, missing) {
+                    continue;
+                }
                 let n = look(f, starts, ends, tags, counts, name, t, x.from, x.to);
                 let cell = numbered(unnumbered, number_of(n));
                 missing = missing_after(missing, n, x.from);
-                q.height = height_after(q.height, cell.kind);
-                q.held = larger(q.held, q.height);
-                q.operators = operators_after(q.operators, cell.kind);
-                i = x.next;
                 if q.used < 193 {
                     let k = q.used;
                     q.cells[k] = cell;

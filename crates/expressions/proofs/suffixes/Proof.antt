@@ -1,5 +1,6 @@
+use mathlib.Core.Path.{sym, _∙_}
 use Rattle.expressions.proofs.SuffixWays.{xs-first, xs-end, xs-bad, xs-in, xs-past, xs-next}
-use Rattle.expressions.proofs.Programs.{name-more, name-full}
+use Rattle.expressions.proofs.Programs.{name-settled, name-more, name-full}
 use Rattle.expressions.proofs.Words.{seen}
 use Rattle.expressions.specs.Contract.{suffixByte, ReadsSuffixes}
 use Rattle.expressions.specs.Entries.{lookupIn}
@@ -38,8 +39,26 @@ returns c = xs-bad _ _ _ _ _ _ (c .before .before .before .before .before .befor
 enum-known-x : tie.Need-enum-known-x Inv-loop μ-loop
 enum-known-x c = search needs
 
+height-after-requires : tie.Need-height-after-requires Inv-loop μ-loop
+height-after-requires c κs = search needs
+
+larger-requires : tie.Need-larger-requires Inv-loop μ-loop
+larger-requires c κs = search needs
+
+operators-after-requires : tie.Need-operators-after-requires Inv-loop μ-loop
+operators-after-requires c κs = search needs
+
+is-settled-requires : tie.Need-is-settled-requires Inv-loop μ-loop
+is-settled-requires c κs = search needs
+
+loop-less : tie.Need-loop-less Inv-loop μ-loop
+loop-less c = omega (arith, xs-past _ _ _ _ _ _ (c .before .before .before .before .before .before .before .before .before .before .before .before .before .loop .inv) (c .before .before .before .before .before .before .before .x .given .1) (c .before .before .before .before .before .before .before .before .before .suffix .ensures))
+
+loop-again : tie.Need-loop-again Inv-loop μ-loop
+loop-again c = xs-next _ _ _ _ _ _ (c .before .before .before .before .before .before .before .before .before .before .before .before .before .loop .inv) (c .before .before .before .before .before .before .before .x .given .1) (c .before .before .before .before .before .before .before .before .before .suffix .ensures) _ (name-settled _ _ _ _ _ _ (sym (c .before .is-settled .ensures) ∙ c .if2 .taken) (c .before .before .before .before .height-after .ensures) (c .before .before .before .larger .ensures) (c .before .before .operators-after .ensures))
+
 look-requires : tie.Need-look-requires Inv-loop μ-loop
-look-requires c κs = let g = xs-in _ _ _ _ _ _ (c .before .before .before .before .before .before .before .before .loop .inv) (c .before .before .x .given .1) (c .before .before .before .before .suffix .ensures) in (c .before .before .before .before .before .before .before .before .before .before .before .before .before .before .pre .0, g .0, g .1)
+look-requires c κs = let g = xs-in _ _ _ _ _ _ (c .before .before .before .before .before .before .before .before .before .before .before .before .before .loop .inv) (c .before .before .before .before .before .before .before .x .given .1) (c .before .before .before .before .before .before .before .before .before .suffix .ensures) in (c .before .before .before .before .before .before .before .before .before .before .before .before .before .before .before .before .before .before .before .pre .0, g .0, g .1)
 
 number-of-requires : tie.Need-number-of-requires Inv-loop μ-loop
 number-of-requires c κs = search needs
@@ -50,15 +69,6 @@ numbered-requires c κs = search needs
 missing-after-requires : tie.Need-missing-after-requires Inv-loop μ-loop
 missing-after-requires c κs = search needs
 
-height-after-requires : tie.Need-height-after-requires Inv-loop μ-loop
-height-after-requires c κs = search needs
-
-larger-requires : tie.Need-larger-requires Inv-loop μ-loop
-larger-requires c κs = search needs
-
-operators-after-requires : tie.Need-operators-after-requires Inv-loop μ-loop
-operators-after-requires c κs = search needs
-
 mul-cell : tie.Need-mul-cell Inv-loop μ-loop
 mul-cell c = search needs
 
@@ -68,17 +78,17 @@ element-set-from-cell c = search needs
 add-q : tie.Need-add-q Inv-loop μ-loop
 add-q c = search needs
 
-loop-less : tie.Need-loop-less Inv-loop μ-loop
-loop-less c = omega (arith, xs-past _ _ _ _ _ _ (c .before .before .before .before .before .before .before .before .before .before .before .before .before .before .before .before .loop .inv) (c .before .before .before .before .before .before .before .before .before .before .x .given .1) (c .before .before .before .before .before .before .before .before .before .before .before .before .suffix .ensures))
-
-loop-again : tie.Need-loop-again Inv-loop μ-loop
-loop-again c = xs-next _ _ _ _ _ _ (c .before .before .before .before .before .before .before .before .before .before .before .before .before .before .before .before .loop .inv) (c .before .before .before .before .before .before .before .before .before .before .x .given .1) (c .before .before .before .before .before .before .before .before .before .before .before .before .suffix .ensures) _ (name-more _ _ _ _ _ _ _ (c .before .before .before .before .before .before .before .look .ensures) (c .before .before .before .before .before .before .number-of .ensures) (c .before .before .before .before .before .numbered .ensures) (c .before .before .before .before .missing-after .ensures) (c .before .before .before .height-after .ensures) (c .before .before .larger .ensures) (c .before .operators-after .ensures) (c .if2 .taken))
-
 loop-less-2 : tie.Need-loop-less-2 Inv-loop μ-loop
-loop-less-2 c = omega (arith, xs-past _ _ _ _ _ _ (c .before .before .before .before .before .before .before .before .before .before .before .before .before .before .before .before .loop .inv) (c .before .before .before .before .before .before .before .before .before .before .x .given .1) (c .before .before .before .before .before .before .before .before .before .before .before .before .suffix .ensures))
+loop-less-2 c = omega (arith, xs-past _ _ _ _ _ _ (c .before .before .before .before .before .before .before .before .before .before .before .before .before .before .before .before .before .before .loop .inv) (c .before .before .before .before .before .before .before .before .before .before .before .before .x .given .1) (c .before .before .before .before .before .before .before .before .before .before .before .before .before .before .suffix .ensures))
 
 loop-again-2 : tie.Need-loop-again-2 Inv-loop μ-loop
-loop-again-2 c = xs-next _ _ _ _ _ _ (c .before .before .before .before .before .before .before .before .before .before .before .before .before .before .before .before .loop .inv) (c .before .before .before .before .before .before .before .before .before .before .x .given .1) (c .before .before .before .before .before .before .before .before .before .before .before .before .suffix .ensures) _ (name-full _ _ _ _ _ _ _ (c .before .before .before .before .before .before .before .look .ensures) (c .before .before .before .before .before .before .number-of .ensures) (c .before .before .before .before .before .numbered .ensures) (c .before .before .before .before .missing-after .ensures) (c .before .before .before .height-after .ensures) (c .before .before .larger .ensures) (c .before .operators-after .ensures) (c .if2 .left))
+loop-again-2 c = xs-next _ _ _ _ _ _ (c .before .before .before .before .before .before .before .before .before .before .before .before .before .before .before .before .before .before .loop .inv) (c .before .before .before .before .before .before .before .before .before .before .before .before .x .given .1) (c .before .before .before .before .before .before .before .before .before .before .before .before .before .before .suffix .ensures) _ (name-more _ _ _ _ _ _ _ (c .before .before .before .before .look .ensures) (c .before .before .before .number-of .ensures) (c .before .before .numbered .ensures) (c .before .missing-after .ensures) (c .before .before .before .before .before .before .before .before .before .height-after .ensures) (c .before .before .before .before .before .before .before .before .larger .ensures) (c .before .before .before .before .before .before .before .operators-after .ensures) (c .if3 .taken))
+
+loop-less-3 : tie.Need-loop-less-3 Inv-loop μ-loop
+loop-less-3 c = omega (arith, xs-past _ _ _ _ _ _ (c .before .before .before .before .before .before .before .before .before .before .before .before .before .before .before .before .before .before .loop .inv) (c .before .before .before .before .before .before .before .before .before .before .before .before .x .given .1) (c .before .before .before .before .before .before .before .before .before .before .before .before .before .before .suffix .ensures))
+
+loop-again-3 : tie.Need-loop-again-3 Inv-loop μ-loop
+loop-again-3 c = xs-next _ _ _ _ _ _ (c .before .before .before .before .before .before .before .before .before .before .before .before .before .before .before .before .before .before .loop .inv) (c .before .before .before .before .before .before .before .before .before .before .before .before .x .given .1) (c .before .before .before .before .before .before .before .before .before .before .before .before .before .before .suffix .ensures) _ (name-full _ _ _ _ _ _ _ (c .before .before .before .before .look .ensures) (c .before .before .before .number-of .ensures) (c .before .before .numbered .ensures) (c .before .missing-after .ensures) (c .before .before .before .before .before .before .before .before .before .height-after .ensures) (c .before .before .before .before .before .before .before .before .larger .ensures) (c .before .before .before .before .before .before .before .operators-after .ensures) (c .if3 .left))
 
 returns-2 : tie.Need-returns-2 Inv-loop μ-loop
 returns-2 c = xs-end _ _ _ _ _ _ (c .before .before .before .before .loop .inv) (seen suffixByte (c .before .before .before .peek .ensures) (c .before .before .is-suffix .ensures) (c .before .if1 .left))
@@ -96,18 +106,21 @@ suffixes-spec =
     enum-known-e
     returns
     enum-known-x
+    height-after-requires
+    larger-requires
+    operators-after-requires
+    is-settled-requires
+    loop-less
+    loop-again
     look-requires
     number-of-requires
     numbered-requires
     missing-after-requires
-    height-after-requires
-    larger-requires
-    operators-after-requires
     mul-cell
     element-set-from-cell
     add-q
-    loop-less
-    loop-again
     loop-less-2
     loop-again-2
+    loop-less-3
+    loop-again-3
     returns-2)
