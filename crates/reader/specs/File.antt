@@ -6,7 +6,7 @@ use Prim.Native.Nat.{ℕ, zero, suc, _-_}
 use lib.Dec.{eqb, leb}
 use lib.ListN.{length, getD}
 use Rattle.algebra.specs.Sort.{Sort, subject, object, action}
-use Rattle.algebra.specs.Policy.{Policy, Frame}
+use Rattle.algebra.specs.Policy.{Policy, Frame, Rule}
 use Rattle.algebra.specs.Policy as Algebra
 use Rattle.grammar.specs.Machine.{Reading, read, wrong, reading}
 use Rattle.grammar.specs.Lookup.{place}
@@ -27,77 +27,25 @@ goalOf d n (read e) = some (record { limit = n; tree = treeOf (lookup d) e })
 goalOf d n (wrong p) = none
 
 -- what is declared after a good line
+-- what is declared, in the order of the groups
+abbrev declare : ℕ → Members → List Predicate → List Table → List (List ℕ) → List Rule → Option Goal → Declared
+declare g ms ps ts ss rs e = record { group = g; members = ms; predicates = ps; tables = ts; sets = ss; rules = rs; goal = e }
+
 unfoldable pub add : Declared → Line → Declared
 add d (memberLine σ n p) =
-    record {
-      group = sortGroup σ;
-      members = withMember σ (record { name = n; parent = parentOf (d .members) σ p }) (d .members);
-      predicates = d .predicates;
-      tables = d .tables;
-      sets = d .sets;
-      rules = d .rules;
-      goal = d .goal;
-    }
+    declare (sortGroup σ) (withMember σ (record { name = n; parent = parentOf (d .members) σ p }) (d .members)) (d .predicates) (d .tables) (d .sets) (d .rules) (d .goal)
 add d (predicateLine σ p m) =
-    record {
-      group = 3;
-      members = d .members;
-      predicates = withListed (d .predicates) σ p (place (memberAt (d .members) σ m)) (predicateAt (d .predicates) σ p);
-      tables = d .tables;
-      sets = d .sets;
-      rules = d .rules;
-      goal = d .goal;
-    }
+    declare 3 (d .members) (withListed (d .predicates) σ p (place (memberAt (d .members) σ m)) (predicateAt (d .predicates) σ p)) (d .tables) (d .sets) (d .rules) (d .goal)
 add d (tableLine t h) =
-    record {
-      group = 4;
-      members = d .members;
-      predicates = d .predicates;
-      tables = d .tables ++ (record { name = t; here = h; grants = [] } ∷ []);
-      sets = d .sets;
-      rules = d .rules;
-      goal = d .goal;
-    }
+    declare 4 (d .members) (d .predicates) (d .tables ++ (record { name = t; here = h; grants = [] } ∷ [])) (d .sets) (d .rules) (d .goal)
 add d (grantLine t s o a) =
-    record {
-      group = 5;
-      members = d .members;
-      predicates = d .predicates;
-      tables = withGrant (d .tables) (place (tableAt (d .tables) t)) (accessOf d s o a);
-      sets = d .sets;
-      rules = d .rules;
-      goal = d .goal;
-    }
+    declare 5 (d .members) (d .predicates) (withGrant (d .tables) (place (tableAt (d .tables) t)) (accessOf d s o a)) (d .sets) (d .rules) (d .goal)
 add d (ruleLine r s o a) =
-    record {
-      group = 6;
-      members = d .members;
-      predicates = d .predicates;
-      tables = d .tables;
-      sets = withSet (d .sets) r (setAt (d .sets) r);
-      rules = d .rules ++ (record { set = orNext (length (d .sets)) (setAt (d .sets) r); head = tripleOf d s o a; body = [] } ∷ []);
-      goal = d .goal;
-    }
+    declare 6 (d .members) (d .predicates) (d .tables) (withSet (d .sets) r (setAt (d .sets) r)) (d .rules ++ (record { set = orNext (length (d .sets)) (setAt (d .sets) r); head = tripleOf d s o a; body = [] } ∷ [])) (d .goal)
 add d (bodyLine b) =
-    record {
-      group = 6;
-      members = d .members;
-      predicates = d .predicates;
-      tables = d .tables;
-      sets = d .sets;
-      rules = withAtom (d .rules) (atomOf d b);
-      goal = d .goal;
-    }
+    declare 6 (d .members) (d .predicates) (d .tables) (d .sets) (withAtom (d .rules) (atomOf d b)) (d .goal)
 add d (expressionLine n t) =
-    record {
-      group = 7;
-      members = d .members;
-      predicates = d .predicates;
-      tables = d .tables;
-      sets = d .sets;
-      rules = d .rules;
-      goal = goalOf d n (reading t);
-    }
+    declare 7 (d .members) (d .predicates) (d .tables) (d .sets) (d .rules) (goalOf d n (reading t))
 
 -- ---- what an accepted file gives: its members with their names, and its policy
 
