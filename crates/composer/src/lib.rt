@@ -22,13 +22,13 @@ use algebra::StoredRule;
 use closure::closure;
 use expressions::Cell;
 use expressions::Program;
+use grants::fill_here;
 use orders::fill_order;
-use sets::StoredScope;
+use scopes::StoredScope;
+use scopes::scope;
 use sets::combine;
 use sets::fill_away;
-use sets::fill_here;
 use sets::replace;
-use sets::scope;
 
 fn wide(x: u8) -> usize
     ensures { λ r. ⌜ (r ≡ x) × (r < 256) ⌝ }

@@ -1,7 +1,7 @@
--- `sets::member` meets its contract.
-use Rattle.sets.proofs.Scopes.{member-subject, member-object, member-action}
-use Rattle.sets.proofs.member.Statement.{statement}
-use Rattle.sets.proofs.member.Tie as tie
+-- `scopes::member` meets its contract.
+use Rattle.scopes.proofs.Scopes.{member-subject, member-object, member-action}
+use Rattle.scopes.proofs.member.Statement.{statement}
+use Rattle.scopes.proofs.member.Tie as tie
 
 returns : tie.Need-returns
 returns c = member-subject _ _ _ _ (c .if1 .taken)

@@ -1,10 +1,10 @@
--- `sets::entry` meets its contract: the index is below the tables' length.
+-- `scopes::entry` meets its contract: the index is below the tables' length.
 use mathlib.Core.Path.{ap₂}
 use Prim.Native.Nat.{_+_, _*_}
 use lib.ListN.{length, getD}
 use borrow.Author.Needs.{needs}
-use Rattle.sets.proofs.entry.Statement.{statement}
-use Rattle.sets.proofs.entry.Tie as tie
+use Rattle.scopes.proofs.entry.Statement.{statement}
+use Rattle.scopes.proofs.entry.Tie as tie
 
 wide-requires : tie.Need-wide-requires
 wide-requires c κs = search needs

@@ -20,11 +20,11 @@ use Rattle.algebra.specs.declared.Counts.{Counts}
 use Rattle.algebra.proofs.Answer.{byte-keep}
 use Rattle.algebra.proofs.Order.{le-self, gt-reversed}
 use Rattle.algebra.proofs.Number.{part-subject, part-object, part-action}
 use Rattle.sets.specs.Sets.{Answers, byteAt, answerAt, putSet}
-use Rattle.sets.specs.Scopes.{storedScope, Coded, Names, memberOf}
-use Rattle.sets.specs.declared.StoredScope.{StoredScope}
+use Rattle.scopes.specs.Scopes.{storedScope, Coded, Names, memberOf}
+use Rattle.scopes.specs.declared.StoredScope.{StoredScope}
 use Rattle.sets.proofs.Sets.{byte-answerOf, putSet-none, putSet-more, unreached}
-use Rattle.sets.proofs.Turns.{turns, turns-three}
+use Rattle.scopes.proofs.Turns.{turns, turns-three}
 
 -- ---- the member of a sort, of three
 

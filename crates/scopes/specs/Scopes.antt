@@ -5,7 +5,7 @@ use lib.Dec.{eqb}
 use Rattle.algebra.specs.Sort.{Sort, subject, object, action}
 use Rattle.algebra.specs.Policy.{Frame, Scope, compared, marked, members}
 use Rattle.algebra.specs.Stored.{storedSort, storedOp}
-use Rattle.sets.specs.declared.StoredScope.{StoredScope}
+use Rattle.scopes.specs.declared.StoredScope.{StoredScope}
 
 unfoldable pub storedScope : StoredScope → Scope
 storedScope c = elim (eqb (c .kind) 6) [ true ↦ marked (storedSort (c .sort)) (c .x) | false ↦ compared (storedSort (c .sort)) (storedOp (c .kind)) (c .x) ]

@@ -1,9 +1,9 @@
--- `sets::passes` meets its contract: each kind by its own law.
-use Rattle.sets.proofs.Scopes.{passes-le, passes-ge, passes-lt, passes-gt, passes-eq, passes-mark}
+-- `scopes::passes` meets its contract: each kind by its own law.
+use Rattle.scopes.proofs.Scopes.{passes-le, passes-ge, passes-lt, passes-gt, passes-eq, passes-mark}
 use borrow.Author.Needs.{needs}
 use native.Mathlib.Omega.{arith}
-use Rattle.sets.proofs.passes.Statement.{statement}
-use Rattle.sets.proofs.passes.Tie as tie
+use Rattle.scopes.proofs.passes.Statement.{statement}
+use Rattle.scopes.proofs.passes.Tie as tie
 
 wide-requires : tie.Need-wide-requires
 wide-requires c κs = search needs

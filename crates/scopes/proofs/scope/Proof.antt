@@ -1,15 +1,15 @@
--- `sets::scope` meets its contract. Each loop's memory is what its turns so far make of the memory at the loop's start.
+-- `scopes::scope` meets its contract. Each loop's memory is what its turns so far make of the memory at the loop's start.
 use mathlib.Core.Path.{_≡_, refl, sym, _∙_}
 use Prim.Native.Nat.{_-_, _≤_}
 use lib.ListN.{length, length-set}
 use Rattle.algebra.specs.Policy.{number, inScope}
 use Rattle.algebra.specs.Stored.{storedSort}
-use Rattle.sets.specs.Scopes.{storedScope}
-use Rattle.sets.proofs.Turns.{turns, turns-more, turns-done}
-use Rattle.sets.proofs.Scopes.{member-small, member-lt, part-member, keep-turn, byAction, byObject, bySubject, Each, walked}
+use Rattle.scopes.specs.Scopes.{storedScope}
+use Rattle.scopes.proofs.Turns.{turns, turns-more, turns-done}
+use Rattle.scopes.proofs.Scopes.{member-small, member-lt, part-member, keep-turn, byAction, byObject, bySubject, Each, walked}
 use native.Mathlib.Omega.{arith}
-use Rattle.sets.proofs.scope.Statement.{statement}
-use Rattle.sets.proofs.scope.Tie as tie
+use Rattle.scopes.proofs.scope.Statement.{statement}
+use Rattle.scopes.proofs.scope.Tie as tie
 
 abbrev Inv-actions : tie.InvT-actions
 Inv-actions w₀ k t z c at subjects objects actions s o a₀ w a = (a ≤ actions) × (length w ≡ length w₀) × Each z t c (λ p. w ≡ turns a (byAction p k z s o) w₀)

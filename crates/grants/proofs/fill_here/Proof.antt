@@ -1,14 +1,14 @@
--- `sets::fill_here` meets its contract: after i turns set k is what the first i grants give the table.
+-- `grants::fill_here` meets its contract: after i turns set k is what the first i grants give the table.
 use mathlib.Core.Path.{_≡_, refl, sym, ap, _∙_}
 use mathlib.Core.Logic.{⊎-elim}
 use Prim.Native.Nat.{_+_, _-_, _≤_}
 use lib.ListN.{length, set}
 use Rattle.sets.specs.Sets.{Room, putSet}
 use Rattle.sets.proofs.Sets.{length-putSet}
-use Rattle.sets.proofs.Grants.{given, turn-miss, turn-beyond, turn-hit, empty-length, empty-given, all-given}
+use Rattle.grants.proofs.Grants.{given, turn-miss, turn-beyond, turn-hit, empty-length, empty-given, all-given}
 use native.Mathlib.Omega.{arith}
-use Rattle.sets.proofs.fill_here.Statement.{statement}
-use Rattle.sets.proofs.fill_here.Tie as tie
+use Rattle.grants.proofs.fill_here.Statement.{statement}
+use Rattle.grants.proofs.fill_here.Tie as tie
 
 abbrev Inv-loop : tie.InvT-loop
 Inv-loop w₀ k n table grants at t i₀ w i = (i ≤ grants) × (length w ≡ length w₀) × (w ≡ putSet k n (given table i w₀) w₀)

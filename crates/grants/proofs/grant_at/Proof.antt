@@ -1,8 +1,8 @@
--- `sets::grant_at` meets its contract: the two bytes are below 256, so the number fits.
+-- `grants::grant_at` meets its contract: the two bytes are below 256, so the number fits.
 use borrow.Author.Needs.{needs}
 use native.Mathlib.Omega.{arith}
-use Rattle.sets.proofs.grant_at.Statement.{statement}
-use Rattle.sets.proofs.grant_at.Tie as tie
+use Rattle.grants.proofs.grant_at.Statement.{statement}
+use Rattle.grants.proofs.grant_at.Tie as tie
 
 mul-wide : tie.Need-mul-wide
 mul-wide c = search needs
