@@ -1,4 +1,7 @@
 // Reading an expression: it is read, its names are looked up, and the postfix program of its tree is made; or the place of its first wrong byte.
+mod text_reader;
+
+use text_reader::from_start;
 ghost use mathlib.Core.Path.{_≡_};
 ghost use mathlib.Core.Bool.{true};
 ghost use Prim.Native.Nat.{_≤_, _<_, _-_, max};
@@ -1046,7 +1049,7 @@ pub fn read<'a>(
         held: 0,
         missing: Place::Nowhere,
     };
-    let m = expression(t, 0, 32, f, starts, ends, tags, counts, p);
+    let m = from_start(t, 32, f, starts, ends, tags, counts, p);
     let k = m.answer;
     let q = m.program;
     match k {

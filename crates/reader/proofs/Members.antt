@@ -121,7 +121,7 @@ good-counts d l e g h = (some, ltb-false _ _ (o3 .1))
     some object = pos (count d object) (o2 .0)
     some action = pos (count d action) (o3 .0)
 
-sort-low : (σ : Sort) → sortGroup σ < 3
+pub sort-low : (σ : Sort) → sortGroup σ < 3
 unfolding sortGroup
 sort-low subject = omega arith
 sort-low object = omega arith

@@ -1,5 +1,5 @@
 -- A P line with the state after it.
-use mathlib.Core.Path.{_≡_, refl, sym, ap, ap₂, subst, _∙_}
+use mathlib.Core.Path.{_≡_, sym, subst}
 use mathlib.Core.List.{List, [], _∷_}
 use mathlib.Core.Option.{none, some}
 use Prim.Native.Nat.{ℕ, _+_, _*_, _<_, _≤_}
@@ -9,7 +9,6 @@ use lib.Seq.{slice}
 use Rattle.algebra.specs.Sort.{Sort}
 use Rattle.algebra.specs.Stored.{storedSort}
 use Rattle.expressions.specs.Entries.{memberCount}
-use Rattle.expressions.specs.declared.NameCounts.{NameCounts}
 use Rattle.reader.specs.Line.{Line, predicateLine}
 use Rattle.reader.specs.Declarations.{Declared, count, membersOf, memberAt, predicateAt, groupOf}
 use Rattle.reader.specs.Rows.{good, refuse, first, rows}
@@ -18,7 +17,7 @@ use Rattle.reader.proofs.Lookup.{position-lt}
 use Rattle.reader.proofs.Rows.{good-rows}
 use Rattle.state.specs.NameTables.{predicateEntry}
 use Rattle.state.specs.Standing.{Stands, Sizes, placedOf, markedOf, morePredicates}
-use Rattle.state.specs.Judged.{PredicateJudged, LineJudged, line-refused, line-good}
+use Rattle.state.specs.Judged.{PredicateJudged}
 use Rattle.state.specs.declared.State.{State}
 use Rattle.state.specs.declared.Marking.{Marking}
 use Rattle.state.specs.declared.Marking.the-variants.{Unmarked, Known, Fresh}
@@ -35,9 +34,9 @@ module _ (f w : List ℕ) (st : State) (d : Declared) (S : Stands f w st d) (s f
   abbrev l : Line
   l = predicateLine σ (slice from to f) m
 
-  pub unmarked : (k : ℕ) (st′ : State) → j ≡ Unmarked k → LineJudged f w d l (record { number = k; state = st′ })
+  pub unmarked : (k : ℕ) → j ≡ Unmarked k → first (rows d l) ≡ refuse k 0
   unfolding PredicateJudged
-  unmarked k st′ e = line-refused (subst (PredicateJudged d σ (slice from to f) m) e J)
+  unmarked k e = subst (PredicateJudged d σ (slice from to f) m) e J
 
   early : first (rows d l) ≡ good → st .group < 5
   unfolding groupOf
@@ -65,10 +64,11 @@ module _ (f w : List ℕ) (st : State) (d : Declared) (S : Stands f w st d) (s f
     pub known-fits : Sizes st × (i < 16) × (x < 64)
     known-fits = (S .sizes, (let h = known-low in let k = S .few .predicates in omega arith), member-low x (known .2))
 
-    pub known-line : (st′ : State) → st′ ≡ markedOf st i x → LineJudged f w d l (record { number = 0; state = st′ })
-    known-line st′ q =
-        line-good (known .0) (subst (λ (t : State). Stands f w t (add d l)) (sym q)
-        (known-added f w st d S σ (slice from to f) m i x (known .1) (known .2) known-low (member-low x (known .2)) (counted (known .0)) (early (known .0))))
+    pub known-good : first (rows d l) ≡ good
+    known-good = known .0
+
+    pub known-stands : Stands f w (markedOf st i x) (add d l)
+    known-stands = known-added f w st d S σ (slice from to f) m i x (known .1) (known .2) known-low (member-low x (known .2)) (counted (known .0)) (early (known .0))
 
   module _ (x : ℕ) (e : j ≡ Fresh x) where
     fresh : (first (rows d l) ≡ good) × (predicateAt (d .predicates) σ (slice from to f) ≡ none) × (memberAt (d .members) σ m ≡ some x) × (length (d .predicates) < 16)
@@ -82,11 +82,10 @@ module _ (f w : List ℕ) (st : State) (d : Declared) (S : Stands f w st d) (s f
     unfolding predicateEntry
     is-tag = stored-number s low
 
-    pub fresh-line : (i k : ℕ) (c : NameCounts) (named st′ : State) → i ≡ st .counts .predicates → k ≡ 144 + i → c ≡ morePredicates (st .counts) → named ≡ placedOf st k from to s c 3
-        → st′ ≡ markedOf named (st .counts .predicates) x → LineJudged f w d l (record { number = 0; state = st′ })
-    fresh-line i k c named st′ ei ek ec en es =
-        line-good (fresh .0) (subst (λ (t : State). Stands f w t (add d l)) (sym (es ∙ ap (λ (t : State). markedOf t (st .counts .predicates) x) named-is))
-        (fresh-added f w st d S σ from to s m x order in-file is-tag (fresh .1) (fresh .2) (fresh-fits .1) (fresh-fits .0) (counted (fresh .0)) (early (fresh .0))))
-      where
-        named-is : named ≡ placedOf st (144 + st .counts .predicates) from to s (morePredicates (st .counts)) 3
-        named-is = en ∙ ap₂ (λ (n : ℕ) (c : NameCounts). placedOf st n from to s c 3) (ek ∙ ap (λ (n : ℕ). 144 + n) ei) ec
+    pub fresh-good : first (rows d l) ≡ good
+    fresh-good = fresh .0
+
+    pub fresh-stands : (st′ : State) → st′ ≡ markedOf (placedOf st (144 + st .counts .predicates) from to s (morePredicates (st .counts)) 3) (st .counts .predicates) x → Stands f w st′ (add d l)
+    fresh-stands st′ q =
+        subst (λ (t : State). Stands f w t (add d l)) (sym q)
+        (fresh-added f w st d S σ from to s m x order in-file is-tag (fresh .1) (fresh .2) (fresh-fits .1) (fresh-fits .0) (counted (fresh .0)) (early (fresh .0)))

@@ -6,7 +6,7 @@ use mathlib.Core.Option.{Option, none, some}
 use Prim.Native.Nat.{ℕ, zero, suc, _+_, _*_, _-_, _<_, _≤_}
 use native.Mathlib.Omega.{arith}
 use native.Mathlib.Numerals.{add-one}
-use lib.ListN.{length, getD}
+use lib.ListN.{length, set, getD}
 use lib.Seq.{slice, length-slice}
 use lib.Dec.{eqb, ltb}
 use borrow.Author.Tests.{eqb-false}
@@ -33,7 +33,7 @@ use Rattle.goals.proofs.GoalCells.{goal-cells}
 use Rattle.reading.specs.Reading.{GoalIs, ReadGood, ReadAs, LineRead, read-refused, read-good}
 use Rattle.lines.specs.Parsed.{lineOf}
 use Rattle.lines.specs.declared.line.Parsed.{Parsed}
-use Rattle.state.specs.Standing.{grantedOf, grantWritten}
+use Rattle.state.specs.Standing.{markedOf, grantedOf, grantWritten}
 use Rattle.state.specs.Judged.{GrantJudged}
 use Rattle.state.specs.declared.Granted.{Granted}
 use Rattle.state.specs.declared.Granted.the-variants.{Refused, Grant}
@@ -103,6 +103,13 @@ before-end d l e = eqb-false (d .group) 7 (last (ltb (groupOf l) (d .group)) (wi
     last false true c h = absurd (let z : _≡_ {A = ℕ} 0 1 = cc in omega arith)
     last false false c h = h
 
+-- the mark that is set in place is the one that is added
+pub known-at : (f w : List ℕ) (st : State) (d : Declared) (i x k : ℕ) → k ≡ i * 64 + x → Stands f w (markedOf st i x) d
+    → Stands f w (record { group = 3; counts = st .counts; starts = st .starts; ends = st .ends; tags = st .tags; marks = set (st .marks) k 1; rules = st .rules; many = st .many; sorts = st .sorts; grants = st .grants }) d
+unfolding markedOf
+known-at f w st d i x k e S =
+    subst (λ (n : ℕ). Stands f w (record { group = 3; counts = st .counts; starts = st .starts; ends = st .ends; tags = st .tags; marks = set (st .marks) n 1; rules = st .rules; many = st .many; sorts = st .sorts; grants = st .grants }) d) (sym e) S
+
 -- ---- one line more: from `at` to r
 
 module _ (f w : List ℕ) (st : State) (g : Goal) (at line r : ℕ) (F : File f) (R : Reached f w st g at line) (less : at < length f)
@@ -152,6 +159,17 @@ module _ (f w : List ℕ) (st : State) (g : Goal) (at line r : ℕ) (F : File f)
       let h = kept-group f p (t .line) k (t .is) in
       let same = other-grants p k n L z in
       added (t .line) (sym q ∙ t .is) (t .is-good) (h .1) w (n .state) (t .stands) (let m = R .room in omega arith)
+
+  -- a P line
+  pub mark-grants : (σ : Sort) (p m : List ℕ) (st′ : State) → Stands f w st′ (add d (predicateLine σ p m)) → st′ .grants ≡ st .grants
+  unfolding groupOf
+  mark-grants σ p m st′ S = S .all-grants ∙ granted-same d (predicateLine σ p m) (λ z. omega arith) ∙ sym (R .stands .all-grants)
+
+  pub mark-next : (σ : Sort) (p m : List ℕ) → parse (slice at r f) ≡ some (predicateLine σ p m) → first (rows d (predicateLine σ p m)) ≡ good
+      → (st′ : State) → Stands f w st′ (add d (predicateLine σ p m)) → Reached f w st′ g (r + 1) (line + 1)
+  unfolding groupOf
+  mark-next σ p m q h st′ S =
+      added (predicateLine σ p m) q h (λ z. omega arith) w st′ S (let k = mark-grants σ p m st′ S in let n = R .room in let x = next in omega arith)
 
   -- a G line
   pub grant-next : (t s o a : List ℕ) → parse (slice at r f) ≡ some (grantLine t s o a) → (j : Granted) → GrantJudged d t s o a j → (x : ℕ) → j ≡ Grant x → 2 * st .grants + 1 < length w

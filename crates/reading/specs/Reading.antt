@@ -31,12 +31,12 @@ pub record Held (f : List ℕ) (st : State) : Type 0 where
   pub declared : Declared
   pub stands : Stands f memory st declared
 
--- every line but those of G and E, which are read where the lent memory and the goal are
+-- every line but those of P, G and E, which are read where the state, the lent memory and the goal are
 abbrev pub Kept : Parsed → Type 0
 Kept Bad = Unit
 Kept (Root s n) = Unit
 Kept (Child s n p) = Unit
-Kept (Predicate s p m) = Unit
+Kept (Predicate s p m) = ⊥
 Kept (Table t h) = Unit
 Kept (Grant t s o a) = ⊥
 Kept (Rule r s o a) = Unit

@@ -30,12 +30,9 @@ ghost use mathlib.Core.Path.{_≡_};
 ghost use mathlib.Core.List.{List};
 ghost use Prim.Native.Nat.{ℕ, _+_, _*_, _≤_, _<_};
 ghost use lib.ListN.{length, drop};
-ghost use Rattle.algebra.specs.Stored.{storedSort};
 ghost use Rattle.reader.specs.Declarations.{Declared, start};
-ghost use Rattle.reader.specs.Line.{predicateLine};
-ghost use Rattle.lines.specs.Parsed.{Named, LineWithin, lineOf, textOf};
-ghost use Rattle.state.specs.Standing.{Few, Sizes, Stands, morePredicates, markedOf, grantWritten};
-ghost use Rattle.state.specs.Judged.{LineJudged};
+ghost use Rattle.lines.specs.Parsed.{LineWithin, lineOf};
+ghost use Rattle.state.specs.Standing.{Few, Sizes, Stands, morePredicates, placedOf, markedOf, grantWritten};
 ghost use Rattle.reading.specs.Reading.{Held, Kept, LineRead, ReadAs};
 
 // A file refused with number, line and place; or the number 0, the state after the file's lines, and the goal of its E line.
@@ -120,16 +117,12 @@ fn wide(x: u8) -> usize
     x as usize
 }
 
-// The state with a mark of member x by predicate p.
-fn marked(st: State, p: u8, x: u8) -> State
-    requires { ⌜ Sizes st × (p < 16) × (x < 64) ⌝ }
-    ensures { λ r. ⌜ r ≡ markedOf st p x ⌝ }
+// Where the mark of member x by predicate p stands.
+fn mark_at(p: u8, x: u8) -> usize
+    requires { ⌜ (p < 16) × (x < 64) ⌝ }
+    ensures { λ r. ⌜ r ≡ p * 64 + x ⌝ }
 {
-    let mut next = st;
-    let i = wide(p) * 64 + wide(x);
-    next.marks[i] = 1;
-    next.group = 3;
-    next
+    wide(p) * 64 + wide(x)
 }
 
 // The counts with one predicate more.
@@ -142,34 +135,22 @@ fn more_predicates(n: NameCounts) -> NameCounts
     next
 }
 
-// A predicate's line: a mark, of a predicate that is there or that this line declares.
-pub fn predicate_line(f: &[u8], st: State, s: u8, p: Part, m: Part) -> Next
-    requires { ⌜ Held (now f) st × Named (now f) p × Named (now f) m × (s ≤ 2) × (length (now f) ≤ 32768) ⌝ }
-    ensures { λ r. ⌜ ((w : List ℕ) (d : Declared) → Stands (now (f .entry)) w st d → LineJudged (now (f .entry)) w d (predicateLine (storedSort s) (textOf (now (f .entry)) p) (textOf (now (f .entry)) m)) r) ⌝ }
+// The state with a predicate p of sort s declared, and its first mark: of member x.
+fn first_mark(st: State, s: u8, p: Part, x: u8) -> State
+    requires { ⌜ Sizes st × Few (st .counts) × (st .counts .predicates < 16) × (x < 64) × (p .from ≤ 32768) × (p .to ≤ 32768) ⌝ }
+    ensures { λ r. ⌜ r ≡ markedOf (placedOf st (144 + st .counts .predicates) (p .from) (p .to) s (morePredicates (st .counts)) 3) (st .counts .predicates) x ⌝ }
 {
     let n = st.counts;
-    let j = judge_predicate(f, &st.starts, &st.ends, &st.tags, n, st.group, s, p, m);
-    match j {
-        Marking::Unmarked(k) => Next {
-            number: k,
-            state: st,
-        },
-        Marking::Known(i, x) => {
-            let state = marked(st, i, x);
-            Next { number: 0, state }
-        }
-        Marking::Fresh(x) => {
-            let i = n.predicates;
-            let named = placed(st, 144 + wide(i), p, s, more_predicates(n), 3);
-            let state = marked(named, i, x);
-            Next { number: 0, state }
-        }
-    }
+    let i = n.predicates;
+    let mut next = placed(st, 144 + wide(i), p, s, more_predicates(n), 3);
+    let k = mark_at(i, x);
+    next.marks[k] = 1;
+    next
 }
 
 // ---- lines
 
-// A line that is neither G, whose grant goes to the lent memory, nor E, which has a goal.
+// A line that is neither P, whose mark is set where it stands, nor G, whose grant goes to the lent memory, nor E, which has a goal.
 fn other_line(f: &[u8], st: State, l: Parsed) -> Next
     requires { ⌜ Held (now f) st × LineWithin (now f) l × Kept l × (length (now f) ≤ 32768) ⌝ }
     ensures { λ r. ⌜ ((w : List ℕ) (d : Declared) → Stands (now (f .entry)) w st d → LineRead (now (f .entry)) w d (lineOf (now (f .entry)) l) r) ⌝ }
@@ -177,7 +158,6 @@ fn other_line(f: &[u8], st: State, l: Parsed) -> Next
     match l {
         Parsed::Root(s, name) => root_line(f, st, s, name),
         Parsed::Child(s, name, parent) => child_line(f, st, s, name, parent),
-        Parsed::Predicate(s, p, m) => predicate_line(f, st, s, p, m),
         Parsed::Table(t, here) => table_line(f, st, t, here),
         Parsed::Rule(set, s, o, a) => rule_line(f, st, set, s, o, a),
         Parsed::GrantBody(s, o, a) => grant_body_line(f, st, s, o, a),
@@ -245,6 +225,31 @@ pub fn read_policy(f: &[u8], w: &mut [u8]) -> Reading
                         put_grant(w, st.grants, g);
                         st.grants = st.grants + 1;
                         st.group = 5;
+                        continue;
+                    }
+                }
+            }
+            Parsed::Predicate(s, p, m) => {
+                let n = st.counts;
+                let j = judge_predicate(f, &st.starts, &st.ends, &st.tags, n, st.group, s, p, m);
+                match j {
+                    Marking::Unmarked(k) => {
+                        return Reading {
+                            number: k,
+                            line,
+                            place: 0,
+                            state: st,
+                            goal,
+                        };
+                    }
+                    Marking::Known(i, x) => {
+                        let k = mark_at(i, x);
+                        st.marks[k] = 1;
+                        st.group = 3;
+                        continue;
+                    }
+                    Marking::Fresh(x) => {
+                        st = first_mark(st, s, p, x);
                         continue;
                     }
                 }

@@ -2,12 +2,12 @@
 use mathlib.Core.Path.{_≡_, refl, sym, ap, _∙_}
 use mathlib.Core.List.{List}
 use Prim.Native.Nat.{ℕ}
-use lib.ListN.{length-map}
 use Rattle.algebra.specs.Sort.{Sort, subject, object, action}
-use Rattle.algebra.specs.Policy.{members, parents}
+use Rattle.algebra.specs.Policy.{members}
 use Rattle.expressions.specs.Entries.{memberCount}
-use Rattle.reader.specs.Declarations.{Declared, Member, membersOf, count}
-use Rattle.reader.specs.File.{refused, readFile, policyOf, frameOf, parentsOf}
+use Rattle.reader.specs.Declarations.{count}
+use Rattle.reader.specs.File.{refused, readFile, policyOf, frameOf}
+use Rattle.reader.proofs.Members.{file-sane}
 use Rattle.state.proofs.NameTables.{count-is}
 use Rattle.reading.specs.Reading.{ReadGood}
 use Rattle.reading.specs.declared.Reading.{Reading}
@@ -19,15 +19,10 @@ pub check-no : (f : List ℕ) (k l p : ℕ) → readFile f ≡ refused k l p
 unfolding check checked
 check-no f k l p e = ap checked (sym e)
 
-frame-members : (d : Declared) (σ : Sort) → members (frameOf d) σ ≡ count d σ
-unfolding frameOf parentsOf count membersOf
-frame-members d subject = length-map (d .members .subjects) (λ (m : Member). m .parent)
-frame-members d object = length-map (d .members .objects) (λ (m : Member). m .parent)
-frame-members d action = length-map (d .members .actions) (λ (m : Member). m .parent)
-
 -- the frame's members are those that the state counts
 pub counted : (f w : List ℕ) (r : Reading) (G : ReadGood f w r) (σ : Sort) → members (frameOf (G .declared)) σ ≡ memberCount (r .state .counts) σ
-counted f w r G σ = frame-members (G .declared) σ ∙ count-is f (r .state .starts) (r .state .ends) (r .state .tags) (r .state .counts) (G .declared) (G .stands .names) σ
+unfolding policyOf count
+counted f w r G σ = file-sane f _ (G .outcome) .counted σ ∙ count-is f (r .state .starts) (r .state .ends) (r .state .tags) (r .state .counts) (G .declared) (G .stands .names) σ
 
 pub check-yes : (f w : List ℕ) (r : Reading) → ReadGood f w r
     → record { number = 0; line = 0; place = 0; subjects = r .state .counts .subjects; objects = r .state .counts .objects; actions = r .state .counts .actions } ≡ check f

@@ -10,6 +10,7 @@ use borrow.Author.Tests.{le-leb, lt-leb}
 use Rattle.algebra.specs.Bytes.{cleared, written, tally}
 use Rattle.algebra.specs.Policy.{accesses}
 use Rattle.algebra.specs.StoredFrame.{total}
+use Rattle.algebra.proofs.Bool.{and-none}
 use Rattle.composer.specs.Compose as Compose
 use Rattle.reader.specs.File.{refused, accepted, readFile}
 use Rattle.reading.specs.Reading.{ReadGood}
@@ -23,10 +24,6 @@ use Rattle.snowdell.proofs.AcceptedFile.{policy, total-low, total-is, a
 
 -- ---- row 1, and a file that is not accepted
 
-false-right : (a : Bool) → (a && false) ≡ false
-false-right true = refl
-false-right false = refl
-
 module _ (f r m : List ℕ) where
   abbrev choice : Bool → Calls.Composed
   choice b = elim b [ true ↦ composed (readFile f) r m | false ↦ unchanged 1 0 0 r m ]
@@ -39,7 +36,7 @@ module _ (f r m : List ℕ) where
   short-result h = short (ap (λ (b : Bool). b && leb 65536 (length m)) (lt-leb 4096 (length r) h))
 
   pub short-memory : length m < 65536 → (x : Composed) → x ≡ refusal 1 0 0 → composedOf x r m ≡ compose f r m
-  short-memory h = short (ap (λ (b : Bool). leb 4096 (length r) && b) (lt-leb 65536 (length m) h) ∙ false-right (leb 4096 (length r)))
+  short-memory h = short (ap (λ (b : Bool). leb 4096 (length r) && b) (lt-leb 65536 (length m) h) ∙ and-none (leb 4096 (length r)) false refl)
 
   module _ (room : 4096 ≤ length r) (fits : 65536 ≤ length m) where
     both : (leb 4096 (length r) && leb 65536 (length m)) ≡ true

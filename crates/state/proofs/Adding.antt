@@ -15,6 +15,7 @@ use Rattle.expressions.specs.Entries.{Entry, entries, Group, Sound, memberBase,
 use Rattle.expressions.specs.declared.NameCounts.{NameCounts}
 use Rattle.reader.specs.Line.{Line, memberLine, tableLine}
 use Rattle.reader.specs.Declarations.{Member, Members, Table, Declared, membersOf, count, withMember, sortGroup, parentOf, noTable}
+use Rattle.reader.proofs.Members.{sort-low}
 use Rattle.reader.specs.Rows.{most}
 use Rattle.reader.specs.File.{add}
 use Rattle.state.specs.NameTables.{parentTag, memberEntry, predicateEntry, tableEntry, setEntry, Names}
@@ -136,12 +137,6 @@ with-other action subject x m ne = refl
 with-other action object x m ne = refl
 with-other action action x m ne = absurd (ne refl)
 
-sort-under : (σ : Sort) → sortGroup σ < 3
-unfolding sortGroup
-sort-under subject = omega arith
-sort-under object = omega arith
-sort-under action = omega arith
-
 -- ---- a member more
 
 module _ (f w : List ℕ) (st : State) (d : Declared) (S : Stands f w st d) (σ : Sort) (from to tag : ℕ) (p : Option (List ℕ))
@@ -226,7 +221,7 @@ module _ (f w : List ℕ) (st : State) (d : Declared) (S : Stands f w st d) (σ 
     sound = member-sound;
     few = more-few c (S .few) σ room;
     sizes = placed-sizes st i from to tag (moreMembers c σ) (sortGroup σ) (S .sizes);
-    counted = λ h. absurd (omega (arith, sort-under σ));
+    counted = λ h. absurd (omega (arith, sort-low σ));
     marks = S .marks;
     grants = S .grants;
     all-grants = S .all-grants;

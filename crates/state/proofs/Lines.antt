@@ -19,11 +19,12 @@ use Rattle.grammar.specs.Lookup.{found}
 use Rattle.expressions.specs.Entries.{Entry, entryAt, entries, memberBase, memberCount, tableBase, lookupIn}
 use Rattle.expressions.specs.declared.NameCounts.{NameCounts}
 use Rattle.reader.specs.Line.{Line, memberLine, tableLine}
-use Rattle.reader.specs.Declarations.{Table, Declared, noTable, memberAt, count, sortGroup, groupOf, parentOf}
+use Rattle.reader.specs.Declarations.{Table, Declared, noTable, memberAt, count, groupOf, parentOf}
 use Rattle.reader.specs.Rows.{good, refuse, first, rows, most, isMember, isParent, notDeclared, outOfOrder, badCounts}
 use Rattle.reader.specs.Expression.{lookup}
 use Rattle.reader.specs.File.{add}
 use Rattle.state.specs.NameTables.{parentTag, tableEntry, Names}
+use Rattle.reader.proofs.Members.{sort-low}
 use Rattle.reader.proofs.Rows.{rows-number, Good, good-rows}
 use Rattle.state.proofs.NameTables.{lookup-is, count-is, predicates-are, tables-are, sets-are}
 use Rattle.state.specs.Standing.{flag, Few, NamesStand, Sizes, Stands, placedOf, moreMembers, moreTables}
@@ -86,15 +87,9 @@ pub no-earlier : (d : Declared) (l : Line) → outOfOrder d l ≡ false → d .g
 unfolding outOfOrder
 no-earlier d l e = ltb-false (groupOf l) (d .group) (or-left-false (ltb (groupOf l) (d .group)) _ e)
 
-sort-three : (σ : Sort) → sortGroup σ < 3
-unfolding sortGroup
-sort-three subject = omega arith
-sort-three object = omega arith
-sort-three action = omega arith
-
 pub member-early : (d : Declared) (σ : Sort) (n : List ℕ) (p : Option (List ℕ)) → first (rows d (memberLine σ n p)) ≡ good → d .group < 5
 unfolding groupOf
-member-early d σ n p e = let h = no-earlier d (memberLine σ n p) (good-rows d (memberLine σ n p) e .row-4) in let s = sort-three σ in omega arith
+member-early d σ n p e = let h = no-earlier d (memberLine σ n p) (good-rows d (memberLine σ n p) e .row-4) in let s = sort-low σ in omega arith
 
 -- ---- a member's line, with the state after it
 

@@ -9,6 +9,7 @@ use lib.ListN.{length, getD}
 use lib.Dec.{eqb, leb, ltb}
 use borrow.Author.Tests.{le-leb, lt-leb, leb-true, leb-false, eq-eqb, ne-eqb}
 use Rattle.algebra.specs.Sort.{Sort, subject, object, action}
+use Rattle.algebra.proofs.Bool.{and-none}
 use Rattle.algebra.specs.Policy.{Rule}
 use Rattle.algebra.specs.Stored.{storedSort}
 use Rattle.grammar.specs.Names.{Kind, table, member, predicate}
@@ -63,10 +64,6 @@ sort-low subject = refl
 sort-low object = refl
 sort-low action = refl
 
-and-no : (a : Bool) → (a && false) ≡ false
-and-no true = refl
-and-no false = refl
-
 module _ (f starts ends tags : List ℕ) (c : NameCounts) (d : Declared) (ns : NamesStand f starts ends tags c d) (group : ℕ) (g : d .group ≡ group) where
   member-at : (σ : Sort) (n : List ℕ) {x : Option ℕ} → lookupIn f starts ends tags c (member σ) n ≡ x → memberAt (d .members) σ n ≡ x
   unfolding lookup
@@ -98,7 +95,7 @@ module _ (f starts ends tags : List ℕ) (c : NameCounts) (d : Declared) (ns : N
 
       row-8 : (p : Option (List ℕ)) → badCounts d (line p) ≡ false
       unfolding badCounts groupOf
-      row-8 p = rw (sort-low (storedSort s)) (and-no (ltb (d .group) 3))
+      row-8 p = rw (sort-low (storedSort s)) (and-none (ltb (d .group) 3) false refl)
 
       many-is : memberCount c (storedSort s) ≡ count d (storedSort s)
       many-is = ns .members-many (storedSort s)

@@ -4,8 +4,8 @@ use borrow.Author.Needs.{needs}
 use Rattle.expressions.proofs.read.Statement.{statement}
 use Rattle.expressions.proofs.read.Tie as tie
 
-expression-requires : tie.Need-expression-requires
-expression-requires c κs = search needs
+from-start-requires : tie.Need-from-start-requires
+from-start-requires c κs = search needs
 
 enum-known-k : tie.Need-enum-known-k
 enum-known-k c = search needs
@@ -14,15 +14,15 @@ enum-known-k-2 : tie.Need-enum-known-k-2
 enum-known-k-2 c = search needs
 
 returns : tie.Need-returns
-returns c = r-rest _ _ _ _ (c .before .before .k2 .given .1) (c .before .before .before .before .before .expression .ensures) _ (c .if1 .taken)
+returns c = r-rest _ _ _ _ (c .before .before .k2 .given .1) (c .before .before .before .before .before .from-start .ensures) _ (c .if1 .taken)
 
 returns-2 : tie.Need-returns-2
-returns-2 c = r-bad _ _ _ _ _ (c .before .k .given .1) (c .before .before .before .before .expression .ensures)
+returns-2 c = r-bad _ _ _ _ _ (c .before .k .given .1) (c .before .before .before .before .from-start .ensures)
 
 returns-3 : tie.Need-returns-3
-returns-3 c = r-whole _ _ _ _ (c .before .before .k2 .given .1) (c .before .before .before .before .before .expression .ensures) record { room = refl; no-cells = refl; no-operators = refl; no-height = refl; no-held = refl; no-place = refl } (c .before .before .before .before .before .before .before .before .before .before .before .pre .1) (c .if1 .left)
+returns-3 c = r-whole _ _ _ _ (c .before .before .k2 .given .1) (c .before .before .before .before .before .from-start .ensures) record { room = refl; no-cells = refl; no-operators = refl; no-height = refl; no-held = refl; no-place = refl } (c .before .before .before .before .before .before .before .before .before .before .before .pre .1) (c .if1 .left)
 
 pub read-spec : {M : Type 1} → statement M
 read-spec =
     tie.close
-    (tie.spec expression-requires enum-known-k enum-known-k-2 returns returns-2 returns-3)
+    (tie.spec from-start-requires enum-known-k enum-known-k-2 returns returns-2 returns-3)
