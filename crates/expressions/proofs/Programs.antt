@@ -1,14 +1,14 @@
 -- The ways through the code that makes a program. Assumes nothing.
-use mathlib.Core.Path.{_≡_, sym, ap, _∙_}
+use mathlib.Core.Path.{_≡_, refl, sym, ap, ap₂, _∙_}
 use mathlib.Core.List.{List}
-use mathlib.Core.Option.{Option}
+use mathlib.Core.Option.{Option, none, some}
 use Prim.Native.Nat.{ℕ, _+_, _≤_, _<_, max}
 use lib.ListN.{set}
 use borrow.Author.Tests.{lt-ltb, le-ltb}
 use Rattle.grammar.specs.Names.{Kind}
 use Rattle.grammar.specs.Lookup.{place}
 use Rattle.expressions.specs.Entries.{foundOf}
-use Rattle.expressions.specs.Cells.{countedTo, operatorsAfter, heightAfter, stored, firstPlace, lacking, noted, withNumber, emitName}
+use Rattle.expressions.specs.Cells.{countedTo, operatorsAfter, heightAfter, stored, firstPlace, placeAfter, lacking, noted, withNumber, emitName}
 use Rattle.expressions.specs.declared.Found.{Found}
 use Rattle.expressions.specs.declared.Found.the-variants.{At as At-number, Nothing}
 use Rattle.expressions.specs.declared.Cell.{Cell}
@@ -47,3 +47,33 @@ module _ (number : Kind → List ℕ → Option ℕ) (k : Kind) (n : List ℕ) (
   pub name-missing : {d : Cell} {l p′ : Program} → r ≡ Nothing → d ≡ withNumber c 0 → l ≡ lacking p i → p′ ≡ stored l d → p′ ≡ emitName number k n i c p
   unfolding emitName noted place
   name-missing q y x z = let w = sym e ∙ ap foundOf q in z ∙ rw (w, y, x)
+
+-- the same in place
+noted-is : (o : Option ℕ) (i : ℕ) (p : Program)
+    → _≡_ {A = Program} record { cells = p .cells; used = p .used; operators = p .operators; height = p .height; held = p .held; missing = placeAfter (p .missing) o i } (noted o i p)
+unfolding noted lacking placeAfter
+noted-is none i p = refl
+noted-is (some m) i p = refl
+
+module _ (number : Kind → List ℕ → Option ℕ) (k : Kind) (n : List ℕ) (i : ℕ) (c d : Cell) (p : Program) {v : Option ℕ} {m h e o : ℕ} {l : Place} (found-is : v ≡ number k n)
+    (number-is : m ≡ place v) (cell-is : d ≡ withNumber c m) (place-is : l ≡ placeAfter (p .missing) v i)
+    (x : h ≡ heightAfter (p .height) (d .kind)) (y : e ≡ max (p .held) h) (z : o ≡ operatorsAfter (p .operators) (d .kind)) where
+  abbrev q : Program
+  q = record { cells = p .cells; used = p .used; operators = p .operators; height = p .height; held = p .held; missing = l }
+
+  q-is : q ≡ noted (number k n) i p
+  q-is = ap (λ (v : Place). record { cells = p .cells; used = p .used; operators = p .operators; height = p .height; held = p .held; missing = v })
+      (place-is ∙ ap (λ (u : Option ℕ). placeAfter (p .missing) u i) found-is) ∙ noted-is (number k n) i p
+
+  d-is : d ≡ withNumber c (place (number k n))
+  d-is = cell-is ∙ ap (withNumber c) (number-is ∙ ap place found-is)
+
+  after : stored q d ≡ emitName number k n i c p
+  unfolding emitName
+  after = ap₂ stored q-is d-is
+
+  pub name-more : p .used < 193 → _≡_ {A = Program} record { cells = set (p .cells) (p .used) d; used = p .used + 1; operators = o; height = h; held = e; missing = l } (emitName number k n i c p)
+  name-more u = put-more q d x y z u ∙ after
+
+  pub name-full : 193 ≤ p .used → _≡_ {A = Program} record { cells = p .cells; used = p .used; operators = o; height = h; held = e; missing = l } (emitName number k n i c p)
+  name-full u = put-full q d x y z u ∙ after

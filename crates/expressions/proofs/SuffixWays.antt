@@ -10,12 +10,13 @@ use lib.Seq.{slice, length-slice}
 use borrow.Author.Tests.{eqb-true, ne-eqb}
 use Rattle.grammar.specs.Expression.{Fac, scoped, closed-by, textS, textF}
 use Rattle.grammar.specs.Machine.{Left, Frame, at-ruleset, at-scope, begin, have, caret, onward, named, named-end, finish, grows, step, run}
-use Rattle.grammar.specs.Names.{Kind, rule-set}
+use Rattle.grammar.specs.Names.{Kind}
 use Rattle.expressions.specs.Entries.{kindOf}
 use Rattle.expressions.specs.Cells.{cell, emitName, emitS, emitF}
 use Rattle.expressions.specs.Contract.{suffixByte, Starts, Strict, Name, ReadsScope, ScopeAt, ReadsSuffixes, SuffixAt, SuffixesAt}
 use Rattle.expressions.specs.declared.Parsed.{Parsed}
 use Rattle.expressions.specs.declared.Parsed.the-variants.{Good, Bad}
+use Rattle.expressions.specs.declared.NameKind.the-variants.{RuleSet}
 use Rattle.expressions.specs.declared.ScopeText.{ScopeText}
 use Rattle.expressions.specs.declared.ScopeRead.{ScopeRead}
 use Rattle.expressions.specs.declared.ScopeRead.the-variants.{Scoped, NoScope}
@@ -43,11 +44,7 @@ module _ (t : List ℕ) (at : ℕ) where
   pub x-in-2 : getD t at 0 ≡ 91 → at < length t
   x-in-2 b = is-in 91 t at b (omega arith)
 
-  pub x-scope-in : {x : ScopeText} {r : ScopeRead} → r ≡ Scoped x → ScopeAt t at r → (x .from ≤ x .to) × (x .to ≤ length t)
-  unfolding ScopeAt
-  x-scope-in q y = let s = subst (ScopeAt t at) q y in (s .ordered, s .in-text)
-
-module _ (number : Kind → List ℕ → Option ℕ) (t : List ℕ) (at : ℕ) (p p′ : Program) where
+module _ (t : List ℕ) (at : ℕ) where
   -- ---- a closure
   module _ (e : suffixByte (getD t at 0) ≡ true) (x : getD t at 0 ≡ 94 → ⊥) where
     is-star : getD t at 0 ≡ 42
@@ -58,28 +55,31 @@ module _ (number : Kind → List ℕ → Option ℕ) (t : List ℕ) (at : ℕ) (
     unfolding step onward
     to-star a ks l f = run-byte t at 42 (have a ks l f) (begin a ks (at-ruleset l f)) is-star (omega arith) refl
 
-    pub x-no-name : {n : ℕ} {r : Parsed} → r ≡ Bad n → Name t (at + 1) r → SuffixAt number t at p p′ (Bad n)
+    pub x-no-name : {n : ℕ} {r : Parsed} → r ≡ Bad n → Name t (at + 1) r → SuffixAt t at (NoScope n)
     unfolding SuffixAt Name
     x-no-name q y =
         let s = subst (Name t (at + 1)) q y in
         record { within = s .within; stops = λ a ks l f. to-star a ks l f ∙ s .stops a ks (at-ruleset l f) _ (strict-ruleset l f) (ruleset-starts a ks l f _) }
 
-    pub x-name : {n : ℕ} {r : Parsed} → r ≡ Good n → Name t (at + 1) r → p′ ≡ emitName number rule-set (slice (at + 1) n t) (at + 1) (cell 7 0 0 0) p → SuffixAt number t at p p′ (Good n)
+    pub x-name : {n : ℕ} {r : Parsed} → r ≡ Good n → Name t (at + 1) r → SuffixAt t at (Scoped (record { name = RuleSet; cell = cell 7 0 0 0; from = at + 1; to = n; next = n }))
     unfolding SuffixAt Name textF emitF
-    x-name {n} q y z =
+    x-name {n} q y =
         let s = subst (Name t (at + 1)) q y in
         let m : List ℕ = slice (at + 1) n t in
         let g : grows m (getD (drop n t) 0 0) ≡ false = ap (grows m) (next-byte t n) ∙ s .over in
         let k = length-slice (at + 1) n t (s .within) in (
-          record {
-            with = λ f. closed-by f m;
-            past = omega (arith, s .past);
-            within = s .within;
-            spans = λ f. omega (arith, length-append (textF f) (42 ∷ m), s .past);
-            emits = λ f i u h w. z ∙ rw (w, h);
-            reads = λ a ks l f. to-star a ks l f ∙ s .reads a ks (at-ruleset l f) (begin a ks (at-ruleset l f)) (ruleset-starts a ks l f _) ∙ settle-ruleset a ks l m (s .no-sort) f (drop n t) g;
-          },
           omega (arith, s .past),
+          s .within,
+          omega (arith, s .past),
+          λ number p.
+              record {
+                with = λ f. closed-by f m;
+                past = omega (arith, s .past);
+                within = s .within;
+                spans = λ f. omega (arith, length-append (textF f) (42 ∷ m), s .past);
+                emits = λ f i u h w. rw (w, h);
+                reads = λ a ks l f. to-star a ks l f ∙ s .reads a ks (at-ruleset l f) (begin a ks (at-ruleset l f)) (ruleset-starts a ks l f _) ∙ settle-ruleset a ks l m (s .no-sort) f (drop n t) g;
+              },
         )
 
   -- ---- a scope
@@ -88,7 +88,7 @@ module _ (number : Kind → List ℕ → Option ℕ) (t : List ℕ) (at : ℕ) (
     unfolding step onward
     to-caret a ks l f = run-byte t at 94 (have a ks l f) (caret a ks l f) e (omega arith) refl
 
-    pub x-square : (getD t (at + 1) 0 ≡ 91 → ⊥) → SuffixAt number t at p p′ (Bad (at + 1))
+    pub x-square : (getD t (at + 1) 0 ≡ 91 → ⊥) → SuffixAt t at (NoScope (at + 1))
     unfolding SuffixAt step finish
     x-square x =
         let i = is-in 94 t at e (omega arith) in
@@ -99,32 +99,24 @@ module _ (number : Kind → List ℕ → Option ℕ) (t : List ℕ) (at : ℕ) (
       unfolding step
       to-scope a ks l f = to-caret a ks l f ∙ run-byte t (at + 1) 91 (caret a ks l f) (begin a ks (at-scope l f)) b (omega arith) refl
 
-      pub x-no-scope : {n : ℕ} {r : ScopeRead} → r ≡ NoScope n → ScopeAt t (at + 1 + 1) r → SuffixAt number t at p p′ (Bad n)
-      unfolding SuffixAt ScopeAt
-      x-no-scope q y =
-          let s = subst (ScopeAt t (at + 1 + 1)) q y in
-          record { within = s .within; stops = λ a ks l f. to-scope a ks l f ∙ s .stops a ks l f }
-
-      module _ {x : ScopeText} {r : ScopeRead} (q : r ≡ Scoped x) (y : ScopeAt t (at + 1 + 1) r) where
-        the-scope : ReadsScope t (at + 1 + 1) x
-        unfolding ScopeAt
-        the-scope = subst (ScopeAt t (at + 1 + 1)) q y
-
-        pub x-scope : p′ ≡ emitName number (kindOf (x .name)) (slice (x .from) (x .to) t) (x .from) (x .cell) p → SuffixAt number t at p p′ (Good (x .next))
-        unfolding SuffixAt textF emitF
-        x-scope z =
-            let s = the-scope in
-            let n = s .spans in (
-              record {
-                with = λ f. scoped f (s .tree);
-                past = omega (arith, s .past);
-                within = s .within;
-                spans = λ f. omega (arith, n, length-append (textF f) (94 ∷ 91 ∷ (textS (s .tree) ++ (93 ∷ []))), length-append (textS (s .tree)) (93 ∷ []));
-                emits = λ f i u h w. z ∙ s .emits number p ∙ ap (λ (v : Program). emitS number (s .tree) (at + 1 + 1) v) w ∙ ap (λ (j : ℕ). emitS number (s .tree) j (emitF number f i u)) (omega arith);
-                reads = λ a ks l f. to-scope a ks l f ∙ s .reads a ks l f;
-              },
-              omega (arith, s .past),
-            )
+      pub x-scope : (r : ScopeRead) → ScopeAt t (at + 1 + 1) r → SuffixAt t at r
+      unfolding SuffixAt ScopeAt textF emitF
+      x-scope (NoScope n) s = record { within = s .within; stops = λ a ks l f. to-scope a ks l f ∙ s .stops a ks l f }
+      x-scope (Scoped x) s =
+          let n = s .spans in (
+            s .ordered,
+            s .in-text,
+            omega (arith, s .past),
+            λ number p.
+                record {
+                  with = λ f. scoped f (s .tree);
+                  past = omega (arith, s .past);
+                  within = s .within;
+                  spans = λ f. omega (arith, n, length-append (textF f) (94 ∷ 91 ∷ (textS (s .tree) ++ (93 ∷ []))), length-append (textS (s .tree)) (93 ∷ []));
+                  emits = λ f i u h w. s .emits number p ∙ ap (λ (v : Program). emitS number (s .tree) (at + 1 + 1) v) w ∙ ap (λ (j : ℕ). emitS number (s .tree) j (emitF number f i u)) (omega arith);
+                  reads = λ a ks l f. to-scope a ks l f ∙ s .reads a ks l f;
+                },
+          )
 
 -- ---- suffixes one after another
 module _ (number : Kind → List ℕ → Option ℕ) (t : List ℕ) (at : ℕ) (p : Program) where
@@ -137,25 +129,33 @@ module _ (number : Kind → List ℕ → Option ℕ) (t : List ℕ) (at : ℕ) (
     unfolding SuffixesAt
     xs-end e = (x, e)
 
-    pub xs-bad : (p′ q′ : Program) {n : ℕ} {r : Parsed} → r ≡ Bad n → SuffixAt number t i q q′ r → SuffixesAt number t at p p′ (Bad n)
+    pub xs-bad : (p′ : Program) {n : ℕ} {r : ScopeRead} → r ≡ NoScope n → SuffixAt t i r → SuffixesAt number t at p p′ (Bad n)
     unfolding SuffixAt SuffixesAt
-    xs-bad p′ q′ e y =
-        let s = subst (SuffixAt number t i q q′) e y in
+    xs-bad p′ e y =
+        let s = subst (SuffixAt t i) e y in
         record { within = s .within; stops = λ a ks l f. x .reads a ks l f ∙ s .stops a ks l (x .with f) }
 
-    pub xs-past : (q′ : Program) {n : ℕ} {r : Parsed} → r ≡ Good n → SuffixAt number t i q q′ r → (i < n) × (n ≤ length t)
-    unfolding SuffixAt
-    xs-past q′ e y = let s = subst (SuffixAt number t i q q′) e y in (s .1, s .0 .within)
+    module _ {y : ScopeText} {r : ScopeRead} (e : r ≡ Scoped y) (z : SuffixAt t i r) where
+      the-suffix : SuffixAt t i (Scoped y)
+      the-suffix = subst (SuffixAt t i) e z
 
-    pub xs-next : (q′ : Program) {n : ℕ} {r : Parsed} → r ≡ Good n → SuffixAt number t i q q′ r → ReadsSuffixes number t at n p q′
-    unfolding SuffixAt
-    xs-next q′ e y =
-        let s = subst (SuffixAt number t i q q′) e y .0 in
-        record {
-          with = λ f. s .with (x .with f);
-          past = omega (arith, x .past, s .past);
-          within = s .within;
-          spans = λ f. omega (arith, x .spans f, s .spans (x .with f));
-          emits = λ f j u h w. s .emits (x .with f) j u (omega (arith, x .spans f)) (x .emits f j u h w);
-          reads = λ a ks l f. x .reads a ks l f ∙ s .reads a ks l (x .with f);
-        }
+      pub xs-in : (y .from ≤ y .to) × (y .to ≤ length t)
+      unfolding SuffixAt
+      xs-in = (the-suffix .0, the-suffix .1)
+
+      pub xs-past : (i < y .next) × (y .next ≤ length t)
+      unfolding SuffixAt
+      xs-past = (the-suffix .2, the-suffix .3 number q .within)
+
+      pub xs-next : (q′ : Program) → q′ ≡ emitName number (kindOf (y .name)) (slice (y .from) (y .to) t) (y .from) (y .cell) q → ReadsSuffixes number t at (y .next) p q′
+      unfolding SuffixAt
+      xs-next q′ g =
+          let s = the-suffix .3 number q in
+          record {
+            with = λ f. s .with (x .with f);
+            past = omega (arith, x .past, s .past);
+            within = s .within;
+            spans = λ f. omega (arith, x .spans f, s .spans (x .with f));
+            emits = λ f j u h w. g ∙ s .emits (x .with f) j u (omega (arith, x .spans f)) (x .emits f j u h w);
+            reads = λ a ks l f. x .reads a ks l f ∙ s .reads a ks l (x .with f);
+          }

@@ -92,6 +92,11 @@ unfoldable pub firstPlace : Place → ℕ → Place
 firstPlace (At i) j = At i
 firstPlace Nowhere j = At j
 
+-- after a name that stands at i, with the number that it has
+unfoldable pub placeAfter : Place → Option ℕ → ℕ → Place
+placeAfter m none i = firstPlace m i
+placeAfter m (some k) i = m
+
 unfoldable pub lacking : Program → ℕ → Program
 lacking p i =
     record { cells = p .cells; used = p .used; operators = p .operators; height = p .height; held = p .held; missing = firstPlace (p .missing) i }

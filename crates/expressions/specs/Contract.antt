@@ -199,10 +199,6 @@ module _ (number : Kind → List ℕ → Option ℕ) (t : List ℕ) where
     pub emits : (f : Fac) (i : ℕ) (q : Program) → at ≡ i + length (textF f) → p ≡ emitF number f i q → p′ ≡ emitF number (with f) i q
     pub reads : (a : ℕ) (ks : List Frame) (l : Left) (f : Fac) → run (drop at t) (have a ks l f) ≡ run (drop n t) (have a ks l (with f))
 
-  unfoldable pub SuffixAt : ℕ → Program → Program → Parsed → Type 0
-  SuffixAt at p p′ (Good n) = ReadsSuffixes at n p p′ × (at < n)
-  SuffixAt at p p′ (Bad e) = StuckSuffix t at e
-
   unfoldable pub SuffixesAt : ℕ → Program → Program → Parsed → Type 0
   SuffixesAt at p p′ (Good n) = ReadsSuffixes at n p p′ × (suffixByte (getD t n 0) ≡ false)
   SuffixesAt at p p′ (Bad e) = StuckSuffix t at e
@@ -281,3 +277,9 @@ module _ (number : Kind → List ℕ → Option ℕ) (t : List ℕ) where
 
   abbrev pub Answer : Made → Type 0
   Answer r = Told (reading t) r
+
+-- a scope or a closure after a factor, with the program that it makes of any other
+unfoldable pub SuffixAt : List ℕ → ℕ → ScopeRead → Type 0
+SuffixAt t at (Scoped x) =
+    (x .from ≤ x .to) × (x .to ≤ length t) × (at < x .next) × ((number : Kind → List ℕ → Option ℕ) (p : Program) → ReadsSuffixes number t at (x .next) p (emitName number (kindOf (x .name)) (slice (x .from) (x .to) t) (x .from) (x .cell) p))
+SuffixAt t at (NoScope e) = StuckSuffix t at e

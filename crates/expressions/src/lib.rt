@@ -9,9 +9,9 @@ ghost use lib.ListN.{length, getD};
 ghost use lib.Seq.{slice};
 ghost use Rattle.algebra.specs.Stored.{storedSort};
 ghost use Rattle.grammar.specs.Name.{isLetter, isNameByte, sortByte, sortWord};
-ghost use Rattle.expressions.specs.Cells.{countedTo, operatorsAfter, heightAfter, stored, firstPlace, lacking, withNumber, emitName};
+ghost use Rattle.expressions.specs.Cells.{countedTo, operatorsAfter, heightAfter, stored, firstPlace, placeAfter, lacking, withNumber, emitName};
 ghost use Rattle.expressions.specs.Contract.{sortCode, signCode, suffixByte, Word, Name, Compared, MemberScope, PredicateScope, ScopeAt, SuffixAt, SuffixesAt, PrimaryAt, FactorAt, MoreAt, ExpressionAt, PartAt, OverrideAt, Answer};
-ghost use Rattle.grammar.specs.Lookup.{same, position};
+ghost use Rattle.grammar.specs.Lookup.{same, position, place};
 ghost use Rattle.expressions.specs.Entries.{sortNumber, entryAt, entries, isTagged, isEntry, Group, Sound, lookupIn, foundOf, kindOf};
 
 // ---- looking up a name
@@ -605,27 +605,15 @@ fn put_name<'a>(
 // ---- the parts of an expression. Each takes the program so far, and how many brackets more may be opened.
 
 // A scope or a closure after a primary.
-fn suffix<'a>(
-    t: &'a [u8],
-    at: usize,
-    f: &'a [u8],
-    starts: &'a [u16],
-    ends: &'a [u16],
-    tags: &'a [u8],
-    counts: NameCounts,
-    p: Program,
-) -> Made
-    requires { ⌜ Sound (now f) (now starts) (now ends) (now tags) counts × (suffixByte (getD (now t) at 0) ≡ true) ⌝ }
-    ensures { λ r. ⌜ SuffixAt (lookupIn (now (f .entry)) (now (starts .entry)) (now (ends .entry)) (now (tags .entry)) counts) (now (t .entry)) at p (r .program) (r .answer) ⌝ }
+fn suffix(t: &[u8], at: usize) -> ScopeRead
+    requires { ⌜ suffixByte (getD (now t) at 0) ≡ true ⌝ }
+    ensures { λ r. ⌜ SuffixAt (now (t .entry)) at r ⌝ }
 {
     let n = at + 1;
     if peek(t, at) != b'^' {
         match read_name(t, n) {
             Parsed::Bad(e) => {
-                return Made {
-                    answer: Parsed::Bad(e),
-                    program: p,
-                };
+                return ScopeRead::NoScope(e);
             }
             Parsed::Good(e) => {
                 let cell = Cell {
@@ -634,61 +622,43 @@ fn suffix<'a>(
                     op: 0,
                     number: 0,
                 };
-                let q = put_name(
-                    f,
-                    starts,
-                    ends,
-                    tags,
-                    counts,
-                    NameKind::RuleSet,
-                    t,
-                    n,
-                    e,
-                    cell,
-                    p,
-                );
-                return Made {
-                    answer: Parsed::Good(e),
-                    program: q,
-                };
+                return ScopeRead::Scoped(ScopeText {
+                    name: NameKind::RuleSet,
+                    cell: cell,
+                    from: n,
+                    to: e,
+                    next: e,
+                });
             }
         }
     }
     if peek(t, n) != b'[' {
-        return Made {
-            answer: Parsed::Bad(n),
-            program: p,
-        };
+        return ScopeRead::NoScope(n);
     }
-    match scope(t, n + 1) {
-        ScopeRead::NoScope(e) => Made {
-            answer: Parsed::Bad(e),
-            program: p,
-        },
-        ScopeRead::Scoped(x) => {
-            let kind = x.name;
-            let cell = x.cell;
-            let q = put_name(
-                f,
-                starts,
-                ends,
-                tags,
-                counts,
-                kind,
-                t,
-                x.from,
-                x.to,
-                cell,
-                p,
-            );
-            Made {
-                answer: Parsed::Good(x.next),
-                program: q,
-            }
-        }
+    scope(t, n + 1)
+}
+
+// The number that a step has: that of its name, or 0.
+fn number_of(n: Found) -> u8
+    ensures { λ r. ⌜ r ≡ place (foundOf n) ⌝ }
+{
+    match n {
+        Found::At(i) => i,
+        Found::Nothing => 0,
     }
 }
 
+// The first place at which a name is missing, after a name that stands at `at`.
+fn missing_after(m: Place, n: Found, at: usize) -> Place
+    ensures { λ r. ⌜ r ≡ placeAfter m (foundOf n) at ⌝ }
+{
+    match n {
+        Found::At(i) => m,
+        Found::Nothing => first_place(m, at),
+    }
+}
+
+// The program is changed in place: an expression may have thousands of suffixes.
 fn suffixes<'a>(
     t: &'a [u8],
     at: usize,
@@ -703,26 +673,47 @@ fn suffixes<'a>(
     ensures { λ r. ⌜ SuffixesAt (lookupIn (now (f .entry)) (now (starts .entry)) (now (ends .entry)) (now (tags .entry)) counts) (now (t .entry)) at p (r .program) (r .answer) ⌝ }
 {
     let mut q = p;
+    let mut missing = p.missing;
     let mut i = at;
     while is_suffix(peek(t, i)) {
-        let m = suffix(t, i, f, starts, ends, tags, counts, q);
-        let k = m.answer;
-        match k {
-            Parsed::Bad(e) => {
+        match suffix(t, i) {
+            ScopeRead::NoScope(e) => {
                 return Made {
                     answer: Parsed::Bad(e),
-                    program: q,
+                    program: p,
                 };
             }
-            Parsed::Good(e) => {
-                q = m.program;
-                i = e;
+            ScopeRead::Scoped(x) => {
+                let name = x.name;
+                let unnumbered = x.cell;
+                let n = look(f, starts, ends, tags, counts, name, t, x.from, x.to);
+                let cell = numbered(unnumbered, number_of(n));
+                missing = missing_after(missing, n, x.from);
+                q.height = height_after(q.height, cell.kind);
+                q.held = larger(q.held, q.height);
+                q.operators = operators_after(q.operators, cell.kind);
+                i = x.next;
+                if q.used < 193 {
+                    let k = q.used;
+                    q.cells[k] = cell;
+                    q.used = k + 1;
+                    continue;
+                }
             }
         }
     }
+    let cells = q.cells;
+    let program = Program {
+        cells: cells,
+        used: q.used,
+        operators: q.operators,
+        height: q.height,
+        held: q.held,
+        missing: missing,
+    };
     Made {
         answer: Parsed::Good(i),
-        program: q,
+        program: program,
     }
 }
 

@@ -1,61 +1,46 @@
 use Prim.Native.Nat.{_+_}
-use Rattle.expressions.proofs.SuffixWays.{x-in, x-no-name, x-name-in, x-name, x-square, x-in-2, x-no-scope, x-scope-in, x-scope}
+use Rattle.expressions.proofs.SuffixWays.{x-in, x-no-name, x-name, x-square, x-in-2, x-scope}
 use Rattle.expressions.proofs.Scopes.{byte-is, byte-isnt}
-use borrow.Author.Needs.{needs}
 use native.Mathlib.Omega.{arith}
+use borrow.Author.Needs.{needs}
 use Rattle.expressions.proofs.suffix.Statement.{statement}
 use Rattle.expressions.proofs.suffix.Tie as tie
 
 add-n : tie.Need-add-n
-add-n c = omega (arith, x-in (c .before .before .before .before .before .args .t .now) (c .before .before .before .before .before .args .at) (c .before .before .before .before .before .pre .1))
+add-n c = omega (arith, x-in (c .before .args .t .now) (c .before .args .at) (c .before .pre))
 
 peek-requires : tie.Need-peek-requires
 peek-requires c κs = search needs
 
 read-name-requires : tie.Need-read-name-requires
-read-name-requires c κs = omega (arith, x-in (c .before .before .before .before .before .before .before .args .t .now) (c .before .before .before .before .before .before .before .args .at) (c .before .before .before .before .before .before .before .pre .1))
+read-name-requires c κs = omega (arith, x-in (c .before .before .before .args .t .now) (c .before .before .before .args .at) (c .before .before .before .pre))
 
 enum-known-e : tie.Need-enum-known-e
 enum-known-e c = search needs
 
 returns : tie.Need-returns
-returns c = x-no-name _ _ _ _ _ (c .before .before .before .before .before .before .before .before .before .before .before .pre .1) (byte-isnt (c .before .before .before .before .before .peek .ensures) (c .before .before .before .before .if1 .taken)) (c .before .e .given .1) (c .before .before .before .read-name .ensures)
+returns c = x-no-name _ _ (c .before .before .before .before .before .before .before .pre) (byte-isnt (c .before .before .before .before .before .peek .ensures) (c .before .before .before .before .if1 .taken)) (c .before .e .given .1) (c .before .before .before .read-name .ensures)
 
 enum-known-e-2 : tie.Need-enum-known-e-2
 enum-known-e-2 c = search needs
 
-put-name-requires : tie.Need-put-name-requires
-put-name-requires c κs = let g = x-name-in _ _ (c .before .e2 .given .1) (c .before .before .before .read-name .ensures) in (c .before .before .before .before .before .before .before .before .before .before .before .pre .0, g .0, g .1)
-
 returns-2 : tie.Need-returns-2
-returns-2 c = x-name _ _ _ _ _ (c .before .before .before .before .before .before .before .before .before .before .before .before .pre .1) (byte-isnt (c .before .before .before .before .before .before .peek .ensures) (c .before .before .before .before .before .if1 .taken)) (c .before .before .e2 .given .1) (c .before .before .before .before .read-name .ensures) (c .put-name .ensures)
+returns-2 c = x-name _ _ (c .before .before .before .before .before .before .before .pre) (byte-isnt (c .before .before .before .before .before .peek .ensures) (c .before .before .before .before .if1 .taken)) (c .before .e2 .given .1) (c .before .before .before .read-name .ensures)
 
 peek-requires-2 : tie.Need-peek-requires-2
 peek-requires-2 c κs = search needs
 
 returns-3 : tie.Need-returns-3
-returns-3 c = x-square _ _ _ _ _ (byte-is (c .before .before .before .peek .ensures) (c .before .before .if1 .left)) (byte-isnt (c .before .peek2 .ensures) (c .if2 .taken))
+returns-3 c = x-square _ _ (byte-is (c .before .before .before .peek .ensures) (c .before .before .if1 .left)) (byte-isnt (c .before .peek2 .ensures) (c .if2 .taken))
 
 add-scope : tie.Need-add-scope
-add-scope c = omega (arith, x-in-2 (c .before .before .before .before .before .before .before .before .before .args .t .now) (c .before .before .before .before .before .before .before .before .before .args .at + 1) (byte-is (c .before .peek2 .ensures) (c .if2 .left)))
+add-scope c = omega (arith, x-in-2 (c .before .before .before .before .before .args .t .now) (c .before .before .before .before .before .args .at + 1) (byte-is (c .before .peek2 .ensures) (c .if2 .left)))
 
 scope-requires : tie.Need-scope-requires
-scope-requires c κs = omega (arith, x-in-2 (c .before .before .before .before .before .before .before .before .before .args .t .now) (c .before .before .before .before .before .before .before .before .before .args .at + 1) (byte-is (c .before .peek2 .ensures) (c .if2 .left)))
-
-enum-known-e-3 : tie.Need-enum-known-e-3
-enum-known-e-3 c = search needs
-
-enum-known-x : tie.Need-enum-known-x
-enum-known-x c = search needs
-
-put-name-requires-2 : tie.Need-put-name-requires-2
-put-name-requires-2 c κs = let g = x-scope-in _ _ (c .before .before .x .given .1) (c .before .before .before .before .scope .ensures) in (c .before .before .before .before .before .before .before .before .before .before .before .before .before .before .pre .0, g .0, g .1)
+scope-requires c κs = omega (arith, x-in-2 (c .before .before .before .before .before .args .t .now) (c .before .before .before .before .before .args .at + 1) (byte-is (c .before .peek2 .ensures) (c .if2 .left)))
 
 returns-4 : tie.Need-returns-4
-returns-4 c = x-no-scope _ _ _ _ _ (byte-is (c .before .before .before .before .before .before .before .peek .ensures) (c .before .before .before .before .before .before .if1 .left)) (byte-is (c .before .before .before .before .before .peek2 .ensures) (c .before .before .before .before .if2 .left)) (c .before .e3 .given .1) (c .before .before .before .scope .ensures)
-
-returns-5 : tie.Need-returns-5
-returns-5 c = x-scope _ _ _ _ _ (byte-is (c .before .before .before .before .before .before .before .before .before .peek .ensures) (c .before .before .before .before .before .before .before .before .if1 .left)) (byte-is (c .before .before .before .before .before .before .before .peek2 .ensures) (c .before .before .before .before .before .before .if2 .left)) (c .before .before .before .x .given .1) (c .before .before .before .before .before .scope .ensures) (c .put-name2 .ensures)
+returns-4 c = x-scope _ _ (byte-is (c .before .before .before .before .peek .ensures) (c .before .before .before .if1 .left)) (byte-is (c .before .before .peek2 .ensures) (c .before .if2 .left)) _ (c .scope .ensures)
 
 pub suffix-spec : {M : Type 1} → statement M
 suffix-spec =
@@ -67,14 +52,9 @@ suffix-spec =
     enum-known-e
     returns
     enum-known-e-2
-    put-name-requires
     returns-2
     peek-requires-2
     returns-3
     add-scope
     scope-requires
-    enum-known-e-3
-    enum-known-x
-    put-name-requires-2
-    returns-4
-    returns-5)
+    returns-4)

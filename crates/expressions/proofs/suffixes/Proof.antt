@@ -1,4 +1,5 @@
-use Rattle.expressions.proofs.SuffixWays.{xs-first, xs-end, xs-bad, xs-past, xs-next}
+use Rattle.expressions.proofs.SuffixWays.{xs-first, xs-end, xs-bad, xs-in, xs-past, xs-next}
+use Rattle.expressions.proofs.Programs.{name-more, name-full}
 use Rattle.expressions.proofs.Words.{seen}
 use Rattle.expressions.specs.Contract.{suffixByte, ReadsSuffixes}
 use Rattle.expressions.specs.Entries.{lookupIn}
@@ -10,10 +11,11 @@ use Rattle.expressions.proofs.suffixes.Statement.{statement}
 use Rattle.expressions.proofs.suffixes.Tie as tie
 
 abbrev Inv-loop : tie.InvT-loop
-Inv-loop t at f starts ends tags counts q₀ i₀ q i = ReadsSuffixes (lookupIn f starts ends tags counts) t i₀ i q₀ q
+Inv-loop t at f starts ends tags counts p q₀ missing₀ i₀ q missing i =
+    ReadsSuffixes (lookupIn f starts ends tags counts) t i₀ i p (record { cells = q .cells; used = q .used; operators = q .operators; height = q .height; held = q .held; missing = missing })
 
 abbrev μ-loop : tie.MeasureT-loop
-μ-loop t at f starts ends tags counts q₀ i₀ q i = length t - i
+μ-loop t at f starts ends tags counts p q₀ missing₀ i₀ q missing i = length t - i
 
 loop-holds : tie.Need-loop-holds Inv-loop μ-loop
 loop-holds c = xs-first _ _ _ _ (c .before .before .before .before .before .pre .1)
@@ -25,25 +27,61 @@ is-suffix-requires : tie.Need-is-suffix-requires Inv-loop μ-loop
 is-suffix-requires c κs = search needs
 
 suffix-requires : tie.Need-suffix-requires Inv-loop μ-loop
-suffix-requires c κs = (c .before .before .before .before .before .before .before .before .before .pre .0, seen suffixByte (c .before .before .peek .ensures) (c .before .is-suffix .ensures) (c .if1 .taken))
+suffix-requires c κs = seen suffixByte (c .before .before .peek .ensures) (c .before .is-suffix .ensures) (c .if1 .taken)
 
-enum-known-k : tie.Need-enum-known-k Inv-loop μ-loop
-enum-known-k c = search needs
+enum-known-e : tie.Need-enum-known-e Inv-loop μ-loop
+enum-known-e c = search needs
 
 returns : tie.Need-returns Inv-loop μ-loop
-returns c = xs-bad _ _ _ _ _ _ (c .before .before .before .before .before .before .before .loop .inv) _ _ (c .before .k .given .1) (c .before .before .before .suffix .ensures)
+returns c = xs-bad _ _ _ _ _ _ (c .before .before .before .before .before .before .before .loop .inv) _ (c .before .e .given .1) (c .before .before .before .suffix .ensures)
 
-enum-known-k-2 : tie.Need-enum-known-k-2 Inv-loop μ-loop
-enum-known-k-2 c = search needs
+enum-known-x : tie.Need-enum-known-x Inv-loop μ-loop
+enum-known-x c = search needs
+
+look-requires : tie.Need-look-requires Inv-loop μ-loop
+look-requires c κs = let g = xs-in _ _ _ _ _ _ (c .before .before .before .before .before .before .before .before .loop .inv) (c .before .before .x .given .1) (c .before .before .before .before .suffix .ensures) in (c .before .before .before .before .before .before .before .before .before .before .before .before .before .before .pre .0, g .0, g .1)
+
+number-of-requires : tie.Need-number-of-requires Inv-loop μ-loop
+number-of-requires c κs = search needs
+
+numbered-requires : tie.Need-numbered-requires Inv-loop μ-loop
+numbered-requires c κs = search needs
+
+missing-after-requires : tie.Need-missing-after-requires Inv-loop μ-loop
+missing-after-requires c κs = search needs
+
+height-after-requires : tie.Need-height-after-requires Inv-loop μ-loop
+height-after-requires c κs = search needs
+
+larger-requires : tie.Need-larger-requires Inv-loop μ-loop
+larger-requires c κs = search needs
+
+operators-after-requires : tie.Need-operators-after-requires Inv-loop μ-loop
+operators-after-requires c κs = search needs
+
+mul-cell : tie.Need-mul-cell Inv-loop μ-loop
+mul-cell c = search needs
+
+element-set-from-cell : tie.Need-element-set-from-cell Inv-loop μ-loop
+element-set-from-cell c = search needs
+
+add-q : tie.Need-add-q Inv-loop μ-loop
+add-q c = search needs
 
 loop-less : tie.Need-loop-less Inv-loop μ-loop
-loop-less c = omega (arith, xs-past _ _ _ _ _ _ (c .before .before .before .before .before .before .before .before .loop .inv) _ (c .before .before .k2 .given .1) (c .before .before .before .before .suffix .ensures))
+loop-less c = omega (arith, xs-past _ _ _ _ _ _ (c .before .before .before .before .before .before .before .before .before .before .before .before .before .before .before .before .loop .inv) (c .before .before .before .before .before .before .before .before .before .before .x .given .1) (c .before .before .before .before .before .before .before .before .before .before .before .before .suffix .ensures))
 
 loop-again : tie.Need-loop-again Inv-loop μ-loop
-loop-again c = xs-next _ _ _ _ _ _ (c .before .before .before .before .before .before .before .before .loop .inv) _ (c .before .before .k2 .given .1) (c .before .before .before .before .suffix .ensures)
+loop-again c = xs-next _ _ _ _ _ _ (c .before .before .before .before .before .before .before .before .before .before .before .before .before .before .before .before .loop .inv) (c .before .before .before .before .before .before .before .before .before .before .x .given .1) (c .before .before .before .before .before .before .before .before .before .before .before .before .suffix .ensures) _ (name-more _ _ _ _ _ _ _ (c .before .before .before .before .before .before .before .look .ensures) (c .before .before .before .before .before .before .number-of .ensures) (c .before .before .before .before .before .numbered .ensures) (c .before .before .before .before .missing-after .ensures) (c .before .before .before .height-after .ensures) (c .before .before .larger .ensures) (c .before .operators-after .ensures) (c .if2 .taken))
+
+loop-less-2 : tie.Need-loop-less-2 Inv-loop μ-loop
+loop-less-2 c = omega (arith, xs-past _ _ _ _ _ _ (c .before .before .before .before .before .before .before .before .before .before .before .before .before .before .before .before .loop .inv) (c .before .before .before .before .before .before .before .before .before .before .x .given .1) (c .before .before .before .before .before .before .before .before .before .before .before .before .suffix .ensures))
+
+loop-again-2 : tie.Need-loop-again-2 Inv-loop μ-loop
+loop-again-2 c = xs-next _ _ _ _ _ _ (c .before .before .before .before .before .before .before .before .before .before .before .before .before .before .before .before .loop .inv) (c .before .before .before .before .before .before .before .before .before .before .x .given .1) (c .before .before .before .before .before .before .before .before .before .before .before .before .suffix .ensures) _ (name-full _ _ _ _ _ _ _ (c .before .before .before .before .before .before .before .look .ensures) (c .before .before .before .before .before .before .number-of .ensures) (c .before .before .before .before .before .numbered .ensures) (c .before .before .before .before .missing-after .ensures) (c .before .before .before .height-after .ensures) (c .before .before .larger .ensures) (c .before .operators-after .ensures) (c .if2 .left))
 
 returns-2 : tie.Need-returns-2 Inv-loop μ-loop
-returns-2 c = xs-end _ _ _ _ _ _ (c .before .before .before .loop .inv) (seen suffixByte (c .before .before .peek .ensures) (c .before .is-suffix .ensures) (c .if1 .left))
+returns-2 c = xs-end _ _ _ _ _ _ (c .before .before .before .before .loop .inv) (seen suffixByte (c .before .before .before .peek .ensures) (c .before .before .is-suffix .ensures) (c .before .if1 .left))
 
 pub suffixes-spec : {M : Type 1} → statement M
 suffixes-spec =
@@ -55,9 +93,21 @@ suffixes-spec =
     peek-requires
     is-suffix-requires
     suffix-requires
-    enum-known-k
+    enum-known-e
     returns
-    enum-known-k-2
+    enum-known-x
+    look-requires
+    number-of-requires
+    numbered-requires
+    missing-after-requires
+    height-after-requires
+    larger-requires
+    operators-after-requires
+    mul-cell
+    element-set-from-cell
+    add-q
     loop-less
     loop-again
+    loop-less-2
+    loop-again-2
     returns-2)
