@@ -1,5 +1,5 @@
 -- The ways through the code that looks up a name. Assumes nothing.
-use mathlib.Core.Path.{_≡_, refl, sym, ap, _∙_}
+use mathlib.Core.Path.{_≡_, refl, sym, ap, subst, _∙_}
 use mathlib.Core.Bool.{Bool, true, false, _&&_, and-false}
 use mathlib.Core.List.{List, [], _∷_}
 use mathlib.Core.Option.{Option, none, some}
@@ -14,10 +14,12 @@ use Rattle.algebra.specs.Lists.{tabFrom}
 use Rattle.algebra.specs.Sort.{Sort, subject, object, action}
 use Rattle.algebra.specs.Stored.{storedSort}
 use Rattle.grammar.specs.Lookup.{same, positionFrom, position}
-use Rattle.expressions.specs.Entries.{Entry, entries, isTagged, isEntry, Group, sortNumber, memberBase, memberCount, lookupIn, kindOf}
+use Rattle.grammar.specs.Names.{Kind, table, rule-set, member, predicate}
+use Rattle.expressions.specs.Entries.{Entry, entries, isTagged, isEntry, Group, Sound, sortNumber, memberBase, memberCount, spanOf, lookupIn, kindOf}
 use Rattle.expressions.specs.declared.NameKind.{NameKind}
-use Rattle.expressions.specs.declared.NameKind.the-variants.{Table, RuleSet, Member, Predicate}
+use Rattle.expressions.specs.declared.NameKind.the-variants.{Member, Predicate}
 use Rattle.expressions.specs.declared.NameCounts.{NameCounts}
+use Rattle.expressions.specs.declared.Span.{Span}
 
 -- ---- two parts compared byte by byte
 same-short : (u v : List ℕ) → (length u ≡ length v → ⊥) → same u v ≡ false
@@ -140,30 +142,34 @@ unfolding storedSort
 sort-other s h k = rw (storedSort, ne-eqb s 0 h, ne-eqb s 1 k)
 
 -- ---- a name as what it is asked for
-module _ (f starts ends tags : List ℕ) (c : NameCounts) (n : List ℕ) (k : NameKind) where
-  pub look-table : {o : Option ℕ} → k ≡ Table → o ≡ position (isEntry 3 n) (entries f starts ends tags 160 (c .tables)) → o ≡ lookupIn f starts ends tags c (kindOf k) n
+
+module _ (f starts ends tags : List ℕ) (c : NameCounts) where
+  span-group : Sound f starts ends tags c → (k : Kind) → Group f starts ends tags (spanOf c k .base) (spanOf c k .count)
+  span-group S table = S .tables
+  span-group S rule-set = S .sets
+  span-group S (member σ) = S .members σ
+  span-group S (predicate σ) = S .predicates
+
+  pub span-at : Sound f starts ends tags c → (k : Kind) (g : Span) → g ≡ spanOf c k → Group f starts ends tags (g .base) (g .count)
+  span-at S k g e = subst (λ (x : Span). Group f starts ends tags (x .base) (x .count)) (sym e) (span-group S k)
+
+  pub looked : (k : Kind) (n : List ℕ) (g : Span) {o : Option ℕ} → g ≡ spanOf c k → o ≡ position (isEntry (g .wanted) n) (entries f starts ends tags (g .base) (g .count)) → o ≡ lookupIn f starts ends tags c k n
   unfolding lookupIn
-  look-table q e = rw q e
+  looked k n g e h = h ∙ ap (λ (x : Span). position (isEntry (x .wanted) n) (entries f starts ends tags (x .base) (x .count))) e
 
-  pub look-ruleset : {o : Option ℕ} → k ≡ RuleSet → o ≡ position (isEntry 3 n) (entries f starts ends tags 176 (c .sets)) → o ≡ lookupIn f starts ends tags c (kindOf k) n
-  unfolding lookupIn
-  look-ruleset q e = rw q e
+pub span-predicate : (c : NameCounts) (k : NameKind) {s w : ℕ} → k ≡ Predicate s → w ≡ sortNumber (storedSort s)
+    → _≡_ {A = Span} record { base = 144; count = c .predicates; wanted = w } (spanOf c (kindOf k))
+span-predicate c k q e = rw (q, e)
 
-  pub look-predicate : {o : Option ℕ} {s w : ℕ} → k ≡ Predicate s → w ≡ sortNumber (storedSort s) → o ≡ position (isEntry w n) (entries f starts ends tags 144 (c .predicates))
-      → o ≡ lookupIn f starts ends tags c (kindOf k) n
-  unfolding lookupIn
-  look-predicate q v e = rw q (e ∙ rw v)
+module _ (c : NameCounts) (k : NameKind) {s : ℕ} (q : k ≡ Member s) where
+  span-member : (σ : Sort) → storedSort s ≡ σ → _≡_ {A = Span} record { base = memberBase σ; count = memberCount c σ; wanted = 3 } (spanOf c (kindOf k))
+  span-member σ z = rw (q, z)
 
-  module _ {o : Option ℕ} {s : ℕ} (q : k ≡ Member s) where
-    look-member : (σ : Sort) → storedSort s ≡ σ → o ≡ position (isEntry 3 n) (entries f starts ends tags (memberBase σ) (memberCount c σ)) → o ≡ lookupIn f starts ends tags c (kindOf k) n
-    unfolding lookupIn
-    look-member σ z e = rw (q, z) e
+  pub span-subject : s ≡ 0 → _≡_ {A = Span} record { base = 0; count = c .subjects; wanted = 3 } (spanOf c (kindOf k))
+  span-subject z = span-member subject (sort-zero s z)
 
-    pub look-subject : s ≡ 0 → o ≡ position (isEntry 3 n) (entries f starts ends tags 0 (c .subjects)) → o ≡ lookupIn f starts ends tags c (kindOf k) n
-    look-subject z = look-member subject (sort-zero s z)
+  pub span-object : s ≡ 1 → _≡_ {A = Span} record { base = 64; count = c .objects; wanted = 3 } (spanOf c (kindOf k))
+  span-object z = span-member object (sort-one s z)
 
-    pub look-object : s ≡ 1 → o ≡ position (isEntry 3 n) (entries f starts ends tags 64 (c .objects)) → o ≡ lookupIn f starts ends tags c (kindOf k) n
-    look-object z = look-member object (sort-one s z)
-
-    pub look-action : (s ≡ 0 → ⊥) → (s ≡ 1 → ⊥) → o ≡ position (isEntry 3 n) (entries f starts ends tags 128 (c .actions)) → o ≡ lookupIn f starts ends tags c (kindOf k) n
-    look-action y z = look-member action (sort-other s y z)
+  pub span-action : (s ≡ 0 → ⊥) → (s ≡ 1 → ⊥) → _≡_ {A = Span} record { base = 128; count = c .actions; wanted = 3 } (spanOf c (kindOf k))
+  span-action y z = span-member action (sort-other s y z)

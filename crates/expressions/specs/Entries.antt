@@ -16,6 +16,7 @@ use Rattle.expressions.specs.declared.Found.the-variants.{At, Nothing}
 use Rattle.expressions.specs.declared.NameKind.{NameKind}
 use Rattle.expressions.specs.declared.NameKind.the-variants.{Table, RuleSet, Member, Predicate}
 use Rattle.expressions.specs.declared.NameCounts.{NameCounts}
+use Rattle.expressions.specs.declared.Span.{Span}
 
 -- ---- the name of entry i is the part of the file f from starts[i] up to ends[i]
 pub record Entry : Type 0 where
@@ -79,13 +80,17 @@ pub record Sound (f starts ends tags : List ℕ) (c : NameCounts) : Type 0 where
   pub tables : Group f starts ends tags tableBase (c .tables)
   pub sets : Group f starts ends tags setBase (c .sets)
 
--- the number of a name of a kind; a predicate's tag is its sort
+-- the group of a kind; a predicate's tag is its sort
+abbrev pub spanOf : NameCounts → Kind → Span
+spanOf c table = record { base = tableBase; count = c .tables; wanted = any-tag }
+spanOf c rule-set = record { base = setBase; count = c .sets; wanted = any-tag }
+spanOf c (member σ) = record { base = memberBase σ; count = memberCount c σ; wanted = any-tag }
+spanOf c (predicate σ) = record { base = predicateBase; count = c .predicates; wanted = sortNumber σ }
+
+-- the number of a name of a kind
 unfoldable pub lookupIn : List ℕ → List ℕ → List ℕ → List ℕ → NameCounts → Kind → List ℕ → Option ℕ
 unfolding position positionFrom isEntry sortNumber
-lookupIn f starts ends tags c table n = position (isEntry any-tag n) (entries f starts ends tags tableBase (c .tables))
-lookupIn f starts ends tags c rule-set n = position (isEntry any-tag n) (entries f starts ends tags setBase (c .sets))
-lookupIn f starts ends tags c (member σ) n = position (isEntry any-tag n) (entries f starts ends tags (memberBase σ) (memberCount c σ))
-lookupIn f starts ends tags c (predicate σ) n = position (isEntry (sortNumber σ) n) (entries f starts ends tags predicateBase (c .predicates))
+lookupIn f starts ends tags c k n = position (isEntry (spanOf c k .wanted) n) (entries f starts ends tags (spanOf c k .base) (spanOf c k .count))
 
 -- ---- what the code's values say
 abbrev pub foundOf : Found → Option ℕ

@@ -12,7 +12,7 @@ ghost use Rattle.grammar.specs.Name.{isLetter, isNameByte, sortByte, sortWord};
 ghost use Rattle.expressions.specs.Cells.{countedTo, operatorsAfter, heightAfter, stored, firstPlace, placeAfter, lacking, withNumber, emitName};
 ghost use Rattle.expressions.specs.Contract.{sortCode, signCode, suffixByte, Word, Name, Compared, MemberScope, PredicateScope, ScopeAt, SuffixAt, SuffixesAt, PrimaryAt, FactorAt, MoreAt, ExpressionAt, PartAt, OverrideAt, Answer};
 ghost use Rattle.grammar.specs.Lookup.{same, position, place};
-ghost use Rattle.expressions.specs.Entries.{sortNumber, entryAt, entries, isTagged, isEntry, Group, Sound, lookupIn, foundOf, kindOf};
+ghost use Rattle.expressions.specs.Entries.{sortNumber, entryAt, entries, isTagged, isEntry, Group, Sound, spanOf, lookupIn, foundOf, kindOf};
 
 // ---- looking up a name
 
@@ -132,6 +132,57 @@ fn sort_tag(s: u8) -> u8
     if s < 2 { s } else { 2 }
 }
 
+// A group of names: its first entry, how many it has, and the tag that is wanted; 3 for any.
+pub struct Span {
+    pub base: usize,
+    pub count: u8,
+    pub wanted: u8,
+}
+
+// The group in which a name is looked for.
+fn group_of(counts: NameCounts, kind: NameKind) -> Span
+    ensures { λ r. ⌜ r ≡ spanOf counts (kindOf kind) ⌝ }
+{
+    match kind {
+        NameKind::Table => Span {
+            base: 160,
+            count: counts.tables,
+            wanted: 3,
+        },
+        NameKind::RuleSet => Span {
+            base: 176,
+            count: counts.sets,
+            wanted: 3,
+        },
+        NameKind::Predicate(s) => Span {
+            base: 144,
+            count: counts.predicates,
+            wanted: sort_tag(s),
+        },
+        NameKind::Member(s) => {
+            if s == 0 {
+                return Span {
+                    base: 0,
+                    count: counts.subjects,
+                    wanted: 3,
+                };
+            }
+            if s == 1 {
+                return Span {
+                    base: 64,
+                    count: counts.objects,
+                    wanted: 3,
+                };
+            }
+            Span {
+                base: 128,
+                count: counts.actions,
+                wanted: 3,
+            }
+        }
+    }
+}
+
 // The number of the name that stands in t from `from` up to `to`, as what it is asked for.
 pub fn look<'a>(
     f: &'a [u8],
@@ -147,31 +198,19 @@ pub fn look<'a>(
     requires { ⌜ Sound (now f) (now starts) (now ends) (now tags) counts × (from ≤ to) × (to ≤ length (now t)) ⌝ }
     ensures { λ r. ⌜ foundOf r ≡ lookupIn (now (f .entry)) (now (starts .entry)) (now (ends .entry)) (now (tags .entry)) counts (kindOf kind) (slice from to (now (t .entry))) ⌝ }
 {
-    match kind {
-        NameKind::Table => find(f, starts, ends, tags, 160, counts.tables, 3, t, from, to),
-        NameKind::RuleSet => find(f, starts, ends, tags, 176, counts.sets, 3, t, from, to),
-        NameKind::Predicate(s) => find(
-            f,
-            starts,
-            ends,
-            tags,
-            144,
-            counts.predicates,
-            sort_tag(s),
-            t,
-            from,
-            to,
-        ),
-        NameKind::Member(s) => {
-            if s == 0 {
-                return find(f, starts, ends, tags, 0, counts.subjects, 3, t, from, to);
-            }
-            if s == 1 {
-                return find(f, starts, ends, tags, 64, counts.objects, 3, t, from, to);
-            }
-            find(f, starts, ends, tags, 128, counts.actions, 3, t, from, to)
-        }
-    }
+    let g = group_of(counts, kind);
+    find(
+        f,
+        starts,
+        ends,
+        tags,
+        g.base,
+        g.count,
+        g.wanted,
+        t,
+        from,
+        to,
+    )
 }
 
 // ---- bytes

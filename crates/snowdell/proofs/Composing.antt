@@ -1,6 +1,6 @@
 -- Compose, from what the reading tells and the run leaves.
 use mathlib.Core.Path.{_≡_, refl, sym, ap, subst, _∙_}
-use mathlib.Core.Bool.{Bool, true, false, _&&_}
+use mathlib.Core.Bool.{Bool, true, false, _&&_, and-false}
 use mathlib.Core.List.{List, _++_}
 use Prim.Native.Nat.{ℕ, _+_, _*_, _≤_, _<_}
 use native.Mathlib.Omega.{arith}
@@ -10,7 +10,6 @@ use borrow.Author.Tests.{le-leb, lt-leb}
 use Rattle.algebra.specs.Bytes.{cleared, written, tally}
 use Rattle.algebra.specs.Policy.{accesses}
 use Rattle.algebra.specs.StoredFrame.{total}
-use Rattle.algebra.proofs.Bool.{and-none}
 use Rattle.composer.specs.Compose as Compose
 use Rattle.reader.specs.File.{refused, accepted, readFile}
 use Rattle.reading.specs.Reading.{ReadGood}
@@ -36,7 +35,7 @@ module _ (f r m : List ℕ) where
   short-result h = short (ap (λ (b : Bool). b && leb 65536 (length m)) (lt-leb 4096 (length r) h))
 
   pub short-memory : length m < 65536 → (x : Composed) → x ≡ refusal 1 0 0 → composedOf x r m ≡ compose f r m
-  short-memory h = short (ap (λ (b : Bool). leb 4096 (length r) && b) (lt-leb 65536 (length m) h) ∙ and-none (leb 4096 (length r)) false refl)
+  short-memory h = short (ap (λ (b : Bool). leb 4096 (length r) && b) (lt-leb 65536 (length m) h) ∙ and-false (leb 4096 (length r)))
 
   module _ (room : 4096 ≤ length r) (fits : 65536 ≤ length m) where
     both : (leb 4096 (length r) && leb 65536 (length m)) ≡ true

@@ -1,6 +1,6 @@
 -- The verdicts on S, O and A lines, T lines and P lines, by the ways through their code.
 use mathlib.Core.Path.{_≡_, refl, sym, ap, _∙_}
-use mathlib.Core.Bool.{Bool, true, false, cond, not, _&&_, _||_}
+use mathlib.Core.Bool.{Bool, true, false, cond, not, _&&_, _||_, and-false}
 use mathlib.Core.List.{List, [], _∷_}
 use mathlib.Core.Option.{Option, none, some}
 use Prim.Native.Nat.{ℕ, zero, suc, _+_, _*_, _≤_, _<_}
@@ -9,7 +9,6 @@ use lib.ListN.{length, getD}
 use lib.Dec.{eqb, leb, ltb}
 use borrow.Author.Tests.{le-leb, lt-leb, leb-true, leb-false, eq-eqb, ne-eqb}
 use Rattle.algebra.specs.Sort.{Sort, subject, object, action}
-use Rattle.algebra.proofs.Bool.{and-none}
 use Rattle.algebra.specs.Policy.{Rule}
 use Rattle.algebra.specs.Stored.{storedSort}
 use Rattle.grammar.specs.Names.{Kind, table, member, predicate}
@@ -95,7 +94,7 @@ module _ (f starts ends tags : List ℕ) (c : NameCounts) (d : Declared) (ns : N
 
       row-8 : (p : Option (List ℕ)) → badCounts d (line p) ≡ false
       unfolding badCounts groupOf
-      row-8 p = rw (sort-low (storedSort s)) (and-none (ltb (d .group) 3) false refl)
+      row-8 p = rw (sort-low (storedSort s)) (and-false (ltb (d .group) 3))
 
       many-is : memberCount c (storedSort s) ≡ count d (storedSort s)
       many-is = ns .members-many (storedSort s)
