@@ -14,7 +14,7 @@ use Rattle.algebra.specs.StoredFrame.{sizeOf, total, parentsOf}
 use Rattle.algebra.specs.declared.Counts.{Counts}
 use Rattle.algebra.specs.declared.StoredRule.{StoredRule}
 use Rattle.sets.specs.Grants.{grantsOf}
-use Rattle.closure.specs.Stored.{Ready, Stored}
+use Rattle.plans.specs.Stored.{Ready, Stored}
 use Rattle.expressions.specs.Cells.{cell, cellOf}
 use Rattle.expressions.specs.declared.Cell.{Cell}
 use Rattle.expressions.specs.declared.Program.{Program}

@@ -16,7 +16,7 @@ use Rattle.algebra.proofs.Program.{one}
 use Rattle.sets.specs.Bytes.{put}
 use Rattle.sets.specs.Sets.{setAt, Stack}
 use Rattle.sets.proofs.Stack.{valuesOf}
-use Rattle.closure.specs.Stored.{Stored}
+use Rattle.plans.specs.Stored.{Stored}
 use Rattle.closure.specs.Closed.{answersOf}
 use Rattle.expressions.specs.Cells.{cellOf}
 use Rattle.expressions.specs.declared.Cell.{Cell}

@@ -12,7 +12,7 @@ use Rattle.algebra.specs.StoredFrame.{sizeOf}
 use Rattle.algebra.specs.declared.StoredAtom.{StoredAtom}
 use Rattle.algebra.specs.declared.StoredRule.{StoredRule}
 use Rattle.algebra.proofs.Lists.{mem-gather}
-use Rattle.closure.specs.Stored.{Sits, EachOfGrant, Each, SitsRule}
+use Rattle.plans.specs.Stored.{Sits, EachOfGrant, Each, SitsRule}
 use Rattle.expressions.specs.Entries.{memberCount}
 use Rattle.expressions.specs.declared.NameCounts.{NameCounts}
 use Rattle.reader.specs.Rows.{Placed, placed, placedTriple, placedAtom, placedLast}

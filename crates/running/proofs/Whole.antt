@@ -11,7 +11,7 @@ use Rattle.algebra.specs.Stored.{storedSort}
 use Rattle.algebra.specs.StoredFrame.{sizeOf, total, parentsOf, Stands}
 use Rattle.algebra.specs.StoredFrame as Frames
 use Rattle.algebra.specs.declared.Counts.{Counts}
-use Rattle.closure.specs.Stored.{Ready}
+use Rattle.plans.specs.Stored.{Ready}
 use Rattle.expressions.specs.Entries.{memberBase, memberCount}
 use Rattle.expressions.specs.declared.NameCounts.{NameCounts}
 use Rattle.composer.specs.Compose.{Fits, Sized, Composes, Listed, cellAt}
