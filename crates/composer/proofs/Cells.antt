@@ -16,8 +16,8 @@ use Rattle.algebra.specs.StoredFrame.{sizeOf, Stands}
 use Rattle.algebra.specs.declared.Counts.{Counts}
 use Rattle.scopes.specs.Scopes.{storedScope, Coded, Names}
 use Rattle.scopes.specs.declared.StoredScope.{StoredScope}
-use Rattle.expressions.specs.Cells.{cellOf}
-use Rattle.expressions.specs.declared.Cell.{Cell}
+use Rattle.words.specs.Cells.{cellOf}
+use Rattle.words.specs.declared.Cell.{Cell}
 use Rattle.composer.specs.Compose.{Fits}
 use Rattle.composer.specs.Turn.{Held}
 use Rattle.scopes.proofs.Scopes.{stored-compared}

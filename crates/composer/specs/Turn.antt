@@ -18,8 +18,8 @@ use Rattle.sets.specs.Sets.{setAt, Stack}
 use Rattle.sets.proofs.Stack.{valuesOf}
 use Rattle.plans.specs.Stored.{Stored}
 use Rattle.closure.specs.Closed.{answersOf}
-use Rattle.expressions.specs.Cells.{cellOf}
-use Rattle.expressions.specs.declared.Cell.{Cell}
+use Rattle.words.specs.Cells.{cellOf}
+use Rattle.words.specs.declared.Cell.{Cell}
 use Rattle.composer.specs.Compose.{TableIs}
 
 -- the rounds of the sets on the stack

@@ -14,14 +14,12 @@ ghost use Rattle.algebra.specs.declared.Counts.{Counts};
 ghost use Rattle.algebra.proofs.Run.{Ran};
 ghost use Rattle.sets.specs.Sets.{putSet, Room};
 ghost use Rattle.plans.specs.Stored.{Ready, Stored};
-ghost use Rattle.expressions.specs.Cells.{cellOf};
+ghost use Rattle.words.specs.Cells.{cellOf};
 ghost use Rattle.composer.specs.Compose.{TableIs, Fits, Sized, Composes, Composed, Listed};
 ghost use Rattle.composer.specs.Turn.{ClosedAt, Held, Steps, Stepped};
 use algebra::Counts;
 use algebra::StoredRule;
 use closure::closure;
-use expressions::Cell;
-use expressions::Program;
 use grants::fill_here;
 use orders::fill_order;
 use scopes::StoredScope;
@@ -29,6 +27,8 @@ use scopes::scope;
 use sets::combine;
 use sets::fill_away;
 use sets::replace;
+use words::Cell;
+use words::Program;
 
 fn wide(x: u8) -> usize
     ensures { λ r. ⌜ (r ≡ x) × (r < 256) ⌝ }

@@ -23,7 +23,7 @@ use Rattle.reader.specs.Rows.{good, refuse, first, rows, outOfOrder, withoutRul
 use Rattle.reader.specs.File.{Outcome, refused, accepted, policyOf, readLines, readFile, isFile, judge, add, ended}
 use Rattle.reader.proofs.Rows.{Good, good-rows, rows-number}
 use Rattle.state.specs.Standing.{Stands}
-use Rattle.expressions.specs.Cells.{cell}
+use Rattle.words.specs.Cells.{cell}
 use Rattle.goals.specs.Goals.{GoalGood, GoalJudged, CellFits}
 use Rattle.state.specs.declared.State.{State}
 use Rattle.state.specs.declared.Next.{Next}

@@ -7,8 +7,8 @@ use lib.ListN.{take, getD}
 use Rattle.algebra.specs.Algebra.{Tree, held}
 use Rattle.algebra.specs.Policy.{Scope}
 use Rattle.algebra.specs.Program.{steps}
-use Rattle.expressions.specs.Cells.{cell, cellOf}
-use Rattle.expressions.specs.declared.NameCounts.{NameCounts}
+use Rattle.words.specs.Cells.{cell, cellOf}
+use Rattle.names.specs.declared.NameCounts.{NameCounts}
 use Rattle.reader.specs.Declarations as Declarations
 use Rattle.reader.specs.Declarations.{Declared}
 use Rattle.reader.specs.Line.{Line}

@@ -10,10 +10,10 @@ use Rattle.algebra.specs.Policy.{number}
 use Rattle.algebra.specs.Stored.{storedSort}
 use Rattle.algebra.specs.declared.Counts.{Counts}
 use Rattle.grammar.specs.Names.{member}
-use Rattle.expressions.specs.Entries.{lookupIn, foundOf, kindOf}
-use Rattle.expressions.specs.declared.NameCounts.{NameCounts}
-use Rattle.expressions.specs.declared.Found.{Found}
-use Rattle.expressions.specs.declared.NameKind.the-variants.{Member}
+use Rattle.names.specs.Entries.{lookupIn, foundOf, kindOf}
+use Rattle.names.specs.declared.NameCounts.{NameCounts}
+use Rattle.names.specs.declared.Found.{Found}
+use Rattle.names.specs.declared.NameKind.the-variants.{Member}
 use Rattle.lines.proofs.Parts.{part-whole}
 use Rattle.running.specs.Runs.{countsOf}
 use Rattle.snowdell.specs.Returned.{askedOf}

@@ -15,8 +15,8 @@ use Rattle.algebra.specs.Policy.{Policy, accesses, members, number, bytes}
 use Rattle.algebra.specs.StoredFrame.{total, sizeOf}
 use Rattle.algebra.proofs.Number.{number-lt}
 use Rattle.grammar.specs.Names.{member}
-use Rattle.expressions.specs.Entries.{lookupIn, memberCount}
-use Rattle.expressions.specs.declared.NameCounts.{NameCounts}
+use Rattle.names.specs.Entries.{lookupIn, memberCount}
+use Rattle.names.specs.declared.NameCounts.{NameCounts}
 use Rattle.composer.specs.Compose as Compose
 use Rattle.reader.specs.Declarations.{Declared, membersOf, memberAt, count}
 use Rattle.reader.specs.Expression.{lookup}

@@ -5,9 +5,9 @@ use Prim.Native.Nat.{ℕ}
 use Rattle.algebra.specs.Sort.{subject, object, action}
 use Rattle.algebra.specs.Policy.{number}
 use Rattle.grammar.specs.Names.{member}
-use Rattle.expressions.specs.Entries.{lookupIn}
+use Rattle.names.specs.Entries.{lookupIn}
 use Rattle.state.specs.declared.State.{State}
-use Rattle.expressions.specs.declared.NameCounts.{NameCounts}
+use Rattle.names.specs.declared.NameCounts.{NameCounts}
 use Rattle.engine.specs.Calls as Calls
 use Rattle.snowdell.specs.declared.Checked.{Checked}
 use Rattle.snowdell.specs.declared.Composed.{Composed}

@@ -12,8 +12,8 @@ use Rattle.algebra.specs.Policy.{Rule}
 use Rattle.grammar.specs.Names as Kinds
 use Rattle.grammar.specs.Names.{Kind, rule-set}
 use Rattle.grammar.specs.Lookup.{same, positionFrom, position}
-use Rattle.expressions.specs.Entries.{Entry, entries, isTagged, isEntry, sortNumber, memberBase, memberCount, lookupIn}
-use Rattle.expressions.specs.declared.NameCounts.{NameCounts}
+use Rattle.names.specs.Entries.{Entry, entries, isTagged, isEntry, sortNumber, memberBase, memberCount, lookupIn}
+use Rattle.names.specs.declared.NameCounts.{NameCounts}
 use Rattle.reader.specs.Line.{Line, memberLine, predicateLine, tableLine, grantLine, ruleLine, bodyLine, expressionLine}
 use Rattle.reader.specs.Declarations.{Member, Predicate, Table, Declared, sameSort, membersOf, memberAt, predicateAt, tableAt, setAt, count, groupOf}
 use Rattle.reader.specs.Expression.{lookup}

@@ -6,8 +6,8 @@ use Rattle.algebra.specs.Sort.{Sort, subject, object, action}
 use Rattle.algebra.specs.Stored.{storedSort}
 use Rattle.algebra.specs.declared.StoredAtom.{StoredAtom}
 use Rattle.algebra.specs.declared.StoredRule.{StoredRule}
-use Rattle.expressions.specs.Entries.{memberCount}
-use Rattle.expressions.specs.declared.NameCounts.{NameCounts}
+use Rattle.names.specs.Entries.{memberCount}
+use Rattle.names.specs.declared.NameCounts.{NameCounts}
 use Rattle.state.specs.RuleJudged.{TermFits, AtomFits}
 use Rattle.state.specs.Standing.{RuleWithin, moreMembers, morePredicates, moreTables, moreSets}
 

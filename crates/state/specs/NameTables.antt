@@ -6,8 +6,8 @@ use mathlib.Core.Option.{Option, none, some}
 use Prim.Native.Nat.{ℕ, suc, _*_}
 use lib.Dec.{eqb, leb, ltb}
 use Rattle.algebra.specs.Sort.{Sort}
-use Rattle.expressions.specs.Entries.{Entry, entries, sortNumber, memberBase, memberCount, predicateBase, tableBase, setBase}
-use Rattle.expressions.specs.declared.NameCounts.{NameCounts}
+use Rattle.names.specs.Entries.{Entry, entries, sortNumber, memberBase, memberCount, predicateBase, tableBase, setBase}
+use Rattle.names.specs.declared.NameCounts.{NameCounts}
 use Rattle.reader.specs.Line.{Line, memberLine, predicateLine, tableLine, grantLine, ruleLine, bodyLine, expressionLine}
 use Rattle.reader.specs.Declarations.{Member, Predicate, Table, Declared, membersOf}
 

@@ -5,7 +5,7 @@ use Rattle.snowdell.proofs.ask.Tie as tie
 use Rattle.snowdell.proofs.ask.Reads as reads
 use Rattle.snowdell.proofs.ask.Lts as lts
 use Rattle.algebra.proofs.access.Reads as access-reads
-use Rattle.expressions.proofs.look.Reads as look-reads
+use Rattle.names.proofs.look.Reads as look-reads
 use Rattle.running.proofs.counts_of.Reads as counts-of-reads
 
 look-requires : tie.Need-look-requires
