@@ -17,9 +17,9 @@ use Rattle.reading.specs.declared.Reading.{Reading}
 use Rattle.running.specs.Runs.{grantsPart, countsOf}
 use Rattle.engine.specs.Calls as Calls
 use Rattle.engine.specs.Calls.{compose, composed, composition, unchanged}
-use Rattle.snowdell.specs.Returned.{composedOf, refusal}
-use Rattle.snowdell.specs.declared.Composed.{Composed}
-use Rattle.snowdell.proofs.AcceptedFile.{policy, total-low, total-is, answers}
+use Rattle.composing.specs.Composition.{composedOf, refusal}
+use Rattle.composing.specs.declared.Composed.{Composed}
+use Rattle.running.proofs.AcceptedFile.{policy, total-low, total-is, answers}
 
 -- ---- row 1, and a file that is not accepted
 

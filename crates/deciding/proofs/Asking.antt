@@ -16,9 +16,9 @@ use Rattle.names.specs.declared.Found.{Found}
 use Rattle.names.specs.declared.NameKind.the-variants.{Member}
 use Rattle.lines.proofs.Parts.{part-whole}
 use Rattle.running.specs.Runs.{countsOf}
-use Rattle.snowdell.specs.Returned.{askedOf}
-use Rattle.snowdell.specs.declared.Asked.{Asked}
-use Rattle.snowdell.specs.declared.Asked.the-variants.{Access, Unknown}
+use Rattle.deciding.specs.Decision.{askedOf}
+use Rattle.deciding.specs.declared.Asked.{Asked}
+use Rattle.deciding.specs.declared.Asked.the-variants.{Access, Unknown}
 
 module _ (f starts ends tags : List ℕ) (c : NameCounts) where
   looked : (k : ℕ) (σ : Sort) → storedSort k ≡ σ → (n : List ℕ) (r : Found) → foundOf r ≡ lookupIn f starts ends tags c (kindOf (Member k)) (slice 0 (length n) n)

@@ -30,11 +30,11 @@ use Rattle.running.specs.Runs.{grantsPart, countsOf}
 use Rattle.running.proofs.Whole.{same-counts}
 use Rattle.engine.specs.Calls as Calls
 use Rattle.engine.specs.Calls.{decide, decided, answered, undecidedBy}
-use Rattle.snowdell.specs.Returned.{decidedOf, noAnswer, askedOf, askedIn}
-use Rattle.snowdell.specs.declared.Decided.{Decided}
-use Rattle.snowdell.specs.declared.Asked.{Asked}
-use Rattle.snowdell.specs.declared.Asked.the-variants.{Access, Unknown}
-use Rattle.snowdell.proofs.AcceptedFile.{policy, total-low, total-is, answers}
+use Rattle.deciding.specs.Decision.{decidedOf, noAnswer, askedOf, askedIn}
+use Rattle.deciding.specs.declared.Decided.{Decided}
+use Rattle.deciding.specs.declared.Asked.{Asked}
+use Rattle.deciding.specs.declared.Asked.the-variants.{Access, Unknown}
+use Rattle.running.proofs.AcceptedFile.{policy, total-low, total-is, answers}
 
 -- ---- the names taken apart
 
