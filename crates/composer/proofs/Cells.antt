@@ -1,6 +1,6 @@
 -- What a cell says, by its kind.
 use mathlib.Core.Path.{_≡_, refl, sym, ap, _∙_}
-use mathlib.Core.Bool.{true, false, cond}
+use mathlib.Core.Bool.{cond}
 use mathlib.Core.List.{List}
 use Prim.Native.Nat.{ℕ, _+_, _*_, _-_, _≤_, _<_}
 use native.Mathlib.Nat.{mul-le-mul}
@@ -9,17 +9,16 @@ use native.Mathlib.Omega.{arith}
 use lib.Dec.{eqb}
 use borrow.Author.Tests.{eq-eqb, ne-eqb}
 use Rattle.algebra.specs.Program.{table-step, plus-step, both-step, minus-step, override-step, scope-step, closure-step, after, operands}
-use Rattle.algebra.specs.Policy.{Frame, compared, marked, members}
+use Rattle.algebra.specs.Policy.{Frame, compared, marked}
 use Rattle.algebra.specs.Stored.{storedSort, storedOp}
 use Rattle.algebra.specs.StoredFrame as Frames
-use Rattle.algebra.specs.StoredFrame.{sizeOf, Stands}
+use Rattle.algebra.specs.StoredFrame.{Stands}
 use Rattle.algebra.specs.declared.Counts.{Counts}
 use Rattle.scopes.specs.Scopes.{storedScope, Coded, Names}
 use Rattle.scopes.specs.declared.StoredScope.{StoredScope}
 use Rattle.words.specs.Cells.{cellOf}
 use Rattle.words.specs.declared.Cell.{Cell}
 use Rattle.composer.specs.Compose.{Fits}
-use Rattle.composer.specs.Turn.{Held}
 use Rattle.scopes.proofs.Scopes.{stored-compared}
 
 module _ (c : Cell) where

@@ -1,5 +1,5 @@
 -- Laws of one step: each kind of cell is a step of the postfix program on the stack.
-use mathlib.Core.Path.{_≡_, refl, sym, ap, subst, fun-ext, _∙_}
+use mathlib.Core.Path.{_≡_, sym, ap, subst, fun-ext, _∙_}
 use mathlib.Core.Bool.{true, false}
 use mathlib.Core.List.{List, [], _∷_, _++_, map}
 use Prim.Native.Nat.{ℕ, _+_, _*_, _-_, _≤_, _<_}
@@ -13,7 +13,7 @@ use Rattle.algebra.specs.Lists.{any, tab}
 use Rattle.algebra.specs.Answer.{Answer, deny, undecided, byte, answerOf, keep, sure}
 use Rattle.algebra.specs.Rounds.{Clause, iter, used}
 use Rattle.algebra.specs.Algebra.{permits, grade, decided, close}
-use Rattle.algebra.specs.Program.{Step, table-step, plus-step, both-step, minus-step, override-step, scope-step, closure-step}
+use Rattle.algebra.specs.Program.{Step, table-step, plus-step, both-step, minus-step, override-step, scope-step}
 use Rattle.algebra.specs.Policy.{Frame, Table, Policy, Scope, accesses, inScope, clauses, model, tableAt, tableAnswer}
 use Rattle.algebra.specs.declared.Counts.{Counts}
 use Rattle.algebra.specs.declared.StoredRule.{StoredRule}
@@ -23,7 +23,7 @@ use Rattle.algebra.proofs.Algebra.{length-permits}
 use Rattle.algebra.proofs.Run.{Ran, valueAt, merge, replace, shut}
 use Rattle.algebra.proofs.Program.{one}
 use Rattle.sets.specs.Bytes.{put}
-use Rattle.sets.specs.Sets.{answerAt, setAt, putSet, Answers, operation, replaced, Stack, no-set, set-on}
+use Rattle.sets.specs.Sets.{answerAt, setAt, putSet, Answers, operation, replaced, Stack, set-on}
 use Rattle.sets.specs.Grants.{grantsOf}
 use Rattle.sets.proofs.Bytes.{put-high, part-put}
 use Rattle.sets.proofs.Sets.{answerOf-byte, putSet-high}

@@ -1,8 +1,7 @@
 -- Laws of a whole program: the stack after its first steps, and what it leaves at its end.
 use mathlib.Core.Path.{_≡_, refl, sym, ap, fun-ext, subst, _∙_}
-use mathlib.Core.Bool.{true}
-use mathlib.Core.List.{List, [], _∷_, _++_, map}
-use Prim.Native.Nat.{ℕ, zero, suc, _+_, _*_, _≤_, _<_, _/_, _%_, max}
+use mathlib.Core.List.{List, [], _∷_, map}
+use Prim.Native.Nat.{ℕ, suc, _+_, _*_, _≤_, _<_, _/_, _%_}
 use native.Mathlib.Numerals.{add-one}
 use native.Mathlib.Omega.{arith}
 use lib.Dec.{eqb}
@@ -11,8 +10,8 @@ use lib.Seq.{ext-getD, drop-cons, take-suc, take-all, getD-take, getD-drop, leng
 use Rattle.algebra.specs.Lists.{gather, only, upto}
 use Rattle.algebra.specs.Answer.{Answer, byte}
 use Rattle.algebra.specs.Algebra.{Tree, Model, held}
-use Rattle.algebra.specs.Program.{Step, table-step, steps, after, peak, operands, Ready}
-use Rattle.algebra.specs.Policy.{Policy, Scope, accesses, model, tableAnswer, bytes, policyRounds}
+use Rattle.algebra.specs.Program.{Step, steps, after, peak, operands, Ready}
+use Rattle.algebra.specs.Policy.{Policy, Scope, accesses, model, tableAnswer, bytes}
 use Rattle.algebra.specs.declared.Counts.{Counts}
 use Rattle.algebra.specs.declared.StoredRule.{StoredRule}
 use Rattle.algebra.proofs.Run.{Ran, run, composed, composed-answers, composed-rounds}
@@ -23,7 +22,7 @@ use Rattle.sets.proofs.Stack.{valuesOf, stack-last}
 use Rattle.words.specs.Cells.{cell, cellOf}
 use Rattle.words.specs.declared.Cell.{Cell}
 use Rattle.words.specs.declared.Program.{Program}
-use Rattle.composer.specs.Compose.{TableIs, cellAt, programOf, Composes, Composed}
+use Rattle.composer.specs.Compose.{cellAt, programOf, Composes, Composed}
 use Rattle.composer.specs.Turn.{roundsOf, Held, Steps, Stepped}
 
 -- ---- the stack after the first steps of a program

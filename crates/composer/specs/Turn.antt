@@ -1,7 +1,7 @@
 -- One step of a program on the stack of sets.
 use mathlib.Core.Path.{_≡_}
 use mathlib.Core.List.{List, [], _∷_}
-use Prim.Native.Nat.{ℕ, _+_, _*_, _≤_, _<_}
+use Prim.Native.Nat.{ℕ, _+_, _*_, _≤_}
 use lib.ListN.{length, getD}
 use Rattle.algebra.specs.Lists.{tab}
 use Rattle.algebra.specs.Answer.{byte}

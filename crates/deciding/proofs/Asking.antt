@@ -17,7 +17,6 @@ use Rattle.names.specs.declared.NameKind.the-variants.{Member}
 use Rattle.lines.proofs.Parts.{part-whole}
 use Rattle.running.specs.Runs.{countsOf}
 use Rattle.deciding.specs.Decision.{askedOf}
-use Rattle.deciding.specs.declared.Asked.{Asked}
 use Rattle.deciding.specs.declared.Asked.the-variants.{Access, Unknown}
 
 module _ (f starts ends tags : List ℕ) (c : NameCounts) where

@@ -3,22 +3,21 @@ use mathlib.Core.Path.{_≡_, refl, sym, ap, subst, _∙_}
 use mathlib.Core.Bool.{Bool, true, false}
 use mathlib.Core.List.{List}
 use mathlib.Core.Option.{Option, none, some}
-use Prim.Native.Nat.{ℕ, _+_, _*_, _≤_, _<_}
+use Prim.Native.Nat.{ℕ, _≤_, _<_}
 use native.Mathlib.Omega.{arith}
-use lib.ListN.{length, getD, take}
+use lib.ListN.{length, getD}
 use lib.Seq.{getD-take}
-use lib.Dec.{leb}
 use borrow.Author.Tests.{le-leb, lt-leb}
 use Rattle.algebra.specs.Sort.{Sort, subject, object, action}
 use Rattle.algebra.specs.Bytes.{cleared}
-use Rattle.algebra.specs.Policy.{Policy, accesses, members, number, bytes}
-use Rattle.algebra.specs.StoredFrame.{total, sizeOf}
+use Rattle.algebra.specs.Policy.{Policy, members, number, bytes}
+use Rattle.algebra.specs.StoredFrame.{total}
 use Rattle.algebra.proofs.Number.{number-lt}
 use Rattle.grammar.specs.Names.{member}
 use Rattle.names.specs.Entries.{lookupIn, memberCount}
 use Rattle.names.specs.declared.NameCounts.{NameCounts}
 use Rattle.composer.specs.Compose as Compose
-use Rattle.reader.specs.Declarations.{Declared, membersOf, memberAt, count}
+use Rattle.reader.specs.Declarations.{membersOf, memberAt, count}
 use Rattle.reader.specs.Expression.{lookup}
 use Rattle.reader.specs.File.{refused, accepted, readFile}
 use Rattle.reader.proofs.Lookup.{position-lt}

@@ -1,18 +1,17 @@
 -- The ways that a call goes: a buffer too short, a file that is refused, a file that is accepted.
-use mathlib.Core.Path.{_≡_, refl, sym, ap, _∙_, subst}
+use mathlib.Core.Path.{_≡_, refl, sym, ap, _∙_}
 use mathlib.Core.Bool.{Bool, true, false, _&&_}
-use mathlib.Core.List.{List, [], _∷_, _++_}
+use mathlib.Core.List.{List, _++_}
 use mathlib.Core.Option.{Option, none, some}
-use Prim.Native.Nat.{ℕ, zero, suc, _+_, _-_, _≤_, _<_}
+use Prim.Native.Nat.{ℕ, _+_, _-_, _≤_, _<_}
 use native.Mathlib.Omega.{arith}
 use lib.Dec.{leb}
 use lib.ListN.{length, getD, drop, replicate, length-append, length-drop, length-replicate, getD-replicate, List·getD-append}
-use lib.Seq.{drop-append-add, drop-at, getD-append-add, getD-drop}
+use lib.Seq.{drop-at, getD-append-add, getD-drop}
 use borrow.Author.Tests.{leb-true}
 use Rattle.algebra.specs.Sort.{subject, object, action}
-use Rattle.algebra.specs.Policy.{Policy, accesses, members, number, bytes, policyRounds}
+use Rattle.algebra.specs.Policy.{members}
 use Rattle.algebra.proofs.Bool.{and-left, and-right}
-use Rattle.algebra.proofs.Bytes.{length-bytes}
 use Rattle.reader.specs.Declarations.{memberAt}
 use Rattle.reader.specs.File.{Accepted, Outcome, refused, accepted, readFile}
 use Rattle.reader.proofs.Rows.{refused-number}

@@ -1,29 +1,24 @@
 -- The demands, proved of files and of the bytes and numbers that the calls give.
 use mathlib.Core.Path.{_≡_, refl, sym, ap, _∙_, subst}
-use mathlib.Core.Logic.{_↔_}
-use mathlib.Core.Bool.{Bool, true, false}
-use mathlib.Core.List.{List, [], _∷_}
-use mathlib.Core.Option.{Option, none, some}
-use Prim.Native.Nat.{ℕ, zero, suc, _+_, _≤_, _<_}
+use mathlib.Core.List.{List}
+use mathlib.Core.Option.{some}
+use Prim.Native.Nat.{ℕ, _≤_, _<_}
 use native.Mathlib.Omega.{arith}
 use lib.ListN.{length, getD, drop}
 use Rattle.algebra.specs.Sort.{subject, object, action}
-use Rattle.algebra.specs.Order.{Ordered}
 use Rattle.algebra.specs.Answer.{Answer, deny, undecided, permit, byte}
-use Rattle.algebra.specs.Policy.{Policy, accesses, parents, members, number, tableAt, bytes, policyAnswer, policySet, policyRounds}
+use Rattle.algebra.specs.Policy.{accesses, members, number, bytes, policyAnswer, policyRounds}
 use Rattle.algebra.specs.Demands as Policies
 use Rattle.algebra.proofs.Number.{number-lt}
 use Rattle.algebra.proofs.Bytes.{length-bytes, bytes-at}
 use Rattle.algebra.proofs.Demands.{policy-sound, policy-complete, policy-stable}
 use Rattle.reader.specs.Declarations.{memberAt, membersOf}
 use Rattle.reader.specs.File.{Accepted, Outcome, refused, accepted, readFile}
-use Rattle.reader.specs.Later.{LaterFile}
 use Rattle.reader.proofs.Lookup.{position-lt}
-use Rattle.reader.proofs.Members.{SaneFile, file-sane}
-use Rattle.reader.proofs.Later.{AcceptedFollows, later-accepted}
-use Rattle.algebra.specs.Bytes.{cleared, written}
-use Rattle.engine.specs.Calls.{Composed, Decided, unchanged, composition, compose, undecidedBy, answered, decide}
-use Rattle.engine.specs.Demands.{KnownState, inSet, AllHere, Names, Writes, Returns, Says, composed, decided, Sound, Complete, Stable, Agree, ParentsEarlier, Demands}
+use Rattle.reader.proofs.Members.{file-sane}
+use Rattle.reader.proofs.Later.{later-accepted}
+use Rattle.engine.specs.Calls.{Composed, Decided, unchanged, composition, compose, undecidedBy, answered}
+use Rattle.engine.specs.Demands.{KnownState, inSet, AllHere, Names, Says, composed, decided, Sound, Complete, Stable, Agree, ParentsEarlier, Demands}
 use Rattle.engine.proofs.Calls.{length-cleared, cleared-zero, cleared-beyond, length-written, written-at, written-beyond, Composes, too-short, not-read, answers, composes, Decides, decides}
 
 -- ---- demand 1

@@ -3,16 +3,16 @@ use mathlib.Core.Path.{_≡_}
 use mathlib.Core.Logic.{_↔_}
 use mathlib.Core.Bool.{true}
 use mathlib.Core.List.{List}
-use mathlib.Core.Option.{Option, some}
+use mathlib.Core.Option.{some}
 use Prim.Native.Nat.{ℕ, _≤_, _<_}
 use lib.ListN.{length, getD, drop}
 use Rattle.algebra.specs.Sort.{subject, object, action}
 use Rattle.algebra.specs.Order.{Ordered}
-use Rattle.algebra.specs.Policy.{Policy, accesses, parents, members, number, tableAt, policySet, policyRounds}
+use Rattle.algebra.specs.Policy.{accesses, parents, members, number, tableAt, policySet}
 use Rattle.reader.specs.Declarations.{memberAt}
 use Rattle.reader.specs.File.{Accepted, Outcome, refused, accepted, readFile}
 use Rattle.reader.specs.Later.{LaterFile}
-use Rattle.engine.specs.Calls.{Checked, Composed, Decided, check, compose, decide}
+use Rattle.engine.specs.Calls.{compose, decide}
 
 -- ---- demand 1: memory
 

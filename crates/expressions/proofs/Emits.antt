@@ -16,7 +16,6 @@ use Rattle.algebra.specs.Policy.{Scope, marked}
 use Rattle.algebra.specs.Program.{Step, plus-step, both-step, minus-step, steps}
 use Rattle.algebra.specs.Order.{Op, le, ge, lt, gt, eq}
 use Rattle.algebra.specs.Stored.{storedOp}
-use Rattle.algebra.proofs.Program.{length-steps}
 use Rattle.grammar.specs.Expression as Grammar
 use Rattle.grammar.specs.Expression.{Joiner, plus-sign, and-sign, minus-sign, Exp, one, more, Fac, plain, scoped, closed-by, Pri, table-name, bracket, byteJ, textS, textE, textF, textP}
 use Rattle.grammar.specs.Names as Names
@@ -430,10 +429,3 @@ module _ (number : Kind → List ℕ → Option ℕ) where
         missing-is = missesE e 0 p ∙ ap (λ (m : Place). orElse (placeOf m) (firstMissing declared (namesE e 0))) (z .no-place);
         within = filledE number e 0 p record { size = z .room; within = λ m j b. absurd (omega arith) } .within;
       }
-
-  -- at most 64 operators leave room for every step
-  pub whole-program : (e : Exp) (p : Program) → Yields number e p → p .operators ≤ 64 → map cellOf (take (p .used) (p .cells)) ≡ steps (treeOf number e)
-  whole-program e p y l = y .cells-are ∙ take-all most-cells (steps (treeOf number e)) (omega (arith, length-steps (treeOf number e), y .operators-are))
-
-  pub whole-length : (e : Exp) (p : Program) → Yields number e p → p .operators ≤ 64 → p .used ≡ length (steps (treeOf number e))
-  whole-length e p y l = omega (arith, length-steps (treeOf number e), y .operators-are, y .used-is)

@@ -13,7 +13,7 @@ use Rattle.grammar.specs.Machine.{Left, Frame, at-ruleset, at-scope, begin, hav
 use Rattle.grammar.specs.Names.{Kind}
 use Rattle.names.specs.Entries.{kindOf}
 use Rattle.words.specs.Cells.{cell, emitName, emitS, emitF}
-use Rattle.words.specs.Contract.{suffixByte, Starts, Strict, Name, ReadsScope, ScopeAt, ReadsSuffixes, SuffixAt, SuffixesAt}
+use Rattle.words.specs.Contract.{suffixByte, Starts, Strict, Name, ScopeAt, ReadsSuffixes, SuffixAt, SuffixesAt}
 use Rattle.words.specs.declared.Parsed.{Parsed}
 use Rattle.words.specs.declared.Parsed.the-variants.{Good, Bad}
 use Rattle.names.specs.declared.NameKind.the-variants.{RuleSet}
@@ -36,10 +36,6 @@ module _ (t : List ℕ) (at : ℕ) where
   pub x-in : suffixByte (getD t at 0) ≡ true → at < length t
   unfolding suffixByte
   x-in e = in-text suffixByte refl t at e
-
-  pub x-name-in : {n : ℕ} {r : Parsed} → r ≡ Good n → Name t at r → (at ≤ n) × (n ≤ length t)
-  unfolding Name
-  x-name-in q y = let s = subst (Name t at) q y in (omega (arith, s .past), s .within)
 
   pub x-in-2 : getD t at 0 ≡ 91 → at < length t
   x-in-2 b = is-in 91 t at b (omega arith)

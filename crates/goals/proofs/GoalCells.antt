@@ -11,9 +11,7 @@ use Rattle.words.specs.declared.Cell.{Cell}
 use Rattle.names.specs.declared.NameCounts.{NameCounts}
 use Rattle.words.specs.declared.Program.{Program}
 use Rattle.reader.specs.Declarations.{Declared}
-use Rattle.reader.specs.Line.{expressionLine}
 use Rattle.reader.specs.Expression.{lookup}
-use Rattle.reader.specs.File.{add}
 use Rattle.state.specs.NameTables.{Names}
 use Rattle.state.specs.Standing.{Few, Stands}
 use Rattle.goals.specs.Goals.{GoalGood, CellFits}

@@ -1,6 +1,6 @@
 -- Laws of the grants in working memory: sets leave them alone, and a loop that marks one grant a turn.
 use mathlib.Core.Path.{_≡_, refl, sym, ap, _∙_}
-use mathlib.Core.Bool.{Bool, true, false, _||_, or-false, or-true}
+use mathlib.Core.Bool.{true, _||_, or-false, or-true}
 use mathlib.Core.List.{List, [], _∷_, _++_, append-nil}
 use Prim.Native.Nat.{ℕ, zero, suc, _+_, _*_, _/_, _%_, _≤_, _<_}
 use native.Mathlib.Nat.{le-antisymm}

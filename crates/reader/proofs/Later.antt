@@ -1,18 +1,17 @@
 -- The reading of a later file: its policy follows that of the first.
 use mathlib.Core.Path.{_≡_, refl, sym, ap, ap₂, _∙_, subst, subst₂, fun-ext}
 use mathlib.Core.Bool.{Bool, true, false, not, false≢true}
-use mathlib.Core.List.{List, [], _∷_, _++_, map, List·Memᴰ, List·Memᴰ·not-nil, List·Memᴰ·cases-cons}
+use mathlib.Core.List.{List, [], _∷_, _++_, List·Memᴰ, List·Memᴰ·not-nil, List·Memᴰ·cases-cons}
 use mathlib.Core.Logic.{_⊎_, inl, inr}
 use mathlib.Core.Option.{Option, none, some}
-use Prim.Native.Nat.{ℕ, zero, suc, _+_, _≤_, _<_}
+use Prim.Native.Nat.{ℕ, zero, suc, _≤_}
 use native.Mathlib.Omega.{arith}
-use lib.ListN.{length, getD, set, List·getD-append}
+use lib.ListN.{length, getD, List·getD-append}
 use lib.Seq.{getD-append-seam}
 use lib.Dec.{eqb}
 use Rattle.algebra.specs.Sort.{Sort, subject, object, action}
-use Rattle.algebra.specs.Policy as Algebra
 use Rattle.algebra.specs.Lists.{any}
-use Rattle.algebra.specs.Policy.{Policy, isGranted}
+use Rattle.algebra.specs.Policy.{isGranted}
 use Rattle.algebra.specs.Demands.{Supplied, Later}
 use Rattle.grammar.specs.Names as Names
 use Rattle.grammar.specs.Names.{Kind, rule-set}
@@ -20,15 +19,15 @@ use Rattle.grammar.specs.Machine.{Reading, read, wrong, reading}
 use Rattle.grammar.specs.Lookup.{same, positionFrom, position, found, place}
 use Rattle.grammar.specs.Tree.{treeOf}
 use Rattle.reader.specs.Text.{lines}
-use Rattle.reader.specs.Line.{Line, memberLine, predicateLine, tableLine, grantLine, ruleLine, bodyLine, expressionLine, parse, Spelled, named, variable, Body, grantBody, orderBody, hasBody}
+use Rattle.reader.specs.Line.{Line, memberLine, predicateLine, tableLine, grantLine, ruleLine, bodyLine, expressionLine, Spelled, named, variable, Body, grantBody, orderBody, hasBody}
 use Rattle.reader.specs.Declarations.{Table, Goal, Declared, tableAt, noTable, granting, withGrant, accessOf, count, termOf, tripleOf, atomOf, start}
 use Rattle.reader.specs.Expression.{lookup}
 use Rattle.reader.specs.Rows.{declaredAlready}
-use Rattle.reader.specs.File.{Accepted, Outcome, refused, accepted, add, goalOf, frameOf, tablesOf, policyOf, ended, readLines, readFile}
+use Rattle.reader.specs.File.{Accepted, accepted, add, goalOf, frameOf, tablesOf, policyOf, ended, readLines, readFile}
 use Rattle.reader.specs.Later as Lines
 use Rattle.reader.specs.Later.{LaterLines, LaterFile}
-use Rattle.reader.proofs.Rows.{Good, good-line, good-as, accepted-lines}
-use Rattle.reader.proofs.Lookup.{same-refl, same-eq, position-lt, position-append, position-last, found-none}
+use Rattle.reader.proofs.Rows.{good-line, good-as, accepted-lines}
+use Rattle.reader.proofs.Lookup.{same-refl, position-lt, position-append, position-last, found-none}
 
 -- ---- tables
 

@@ -1,10 +1,10 @@
-use Rattle.grammar.specs.Lookup.{same, positionFrom, position, found, place}
+use Rattle.grammar.specs.Lookup.{same, positionFrom, position, found}
 -- Laws of looking up a name: what is found is below the list's length, and stays found as the list grows.
-use mathlib.Core.Path.{_≡_, refl, sym, ap, _∙_}
-use mathlib.Core.Bool.{Bool, true, false, _&&_}
+use mathlib.Core.Path.{_≡_, refl, ap, _∙_}
+use mathlib.Core.Bool.{Bool, true, false}
 use mathlib.Core.List.{List, [], _∷_, _++_}
 use mathlib.Core.Option.{Option, none, some}
-use Prim.Native.Nat.{ℕ, zero, suc, _+_, _≤_, _<_}
+use Prim.Native.Nat.{ℕ, suc, _+_, _≤_, _<_}
 use native.Mathlib.Omega.{arith}
 use lib.ListN.{length}
 use borrow.Author.Tests.{eq-eqb, eqb-true}
@@ -68,12 +68,6 @@ module _ {A : Type 0} (p : A → Bool) where
   pub position-last : (l : List A) (x : A) → position p l ≡ none → p x ≡ true → position p (l ++ (x ∷ [])) ≡ some (length l)
   unfolding position
   position-last l x e h = from-last 0 l x e h ∙ ap some (omega arith)
-
--- a test on what is found
-pub found-some : {A : Type 0} (o : Option A) → found o ≡ true → (x : A) × (o ≡ some x)
-unfolding found
-found-some none e = absurd (let z : _≡_ {A = ℕ} 0 1 = cc in omega arith)
-found-some (some x) e = (x, refl)
 
 pub found-none : {A : Type 0} (o : Option A) → found o ≡ false → o ≡ none
 unfolding found

@@ -3,13 +3,13 @@ use mathlib.Core.Path.{_≡_, refl, sym, ap, subst, _∙_}
 use mathlib.Core.Bool.{Bool, true, false, not, _&&_}
 use mathlib.Core.List.{List}
 use mathlib.Core.Option.{Option, none, some}
-use Prim.Native.Nat.{ℕ, _+_, _*_, _/_, _%_, _<_, _≤_}
+use Prim.Native.Nat.{ℕ, _+_, _*_, _/_, _%_, _<_}
 use native.Mathlib.Omega.{arith}
 use lib.ListN.{length, set, drop}
 use lib.Seq.{drop-set-lt, drop-drop}
 use Rattle.grammar.specs.Lookup.{found, place}
 use Rattle.reader.specs.Line.{Line, grantLine}
-use Rattle.reader.specs.Declarations.{Declared, Table, tableAt, accessOf, groupOf}
+use Rattle.reader.specs.Declarations.{Declared, tableAt, accessOf, groupOf}
 use Rattle.reader.specs.Rows.{good, refuse, first, rows, notDeclared}
 use Rattle.reader.specs.File.{add}
 use Rattle.reader.proofs.Lookup.{position-lt}

@@ -1,22 +1,21 @@
 -- The state before the first line stands for nothing declared.
-use mathlib.Core.Path.{_≡_, refl, sym, ap, _∙_}
-use mathlib.Core.Bool.{false}
-use mathlib.Core.List.{List, [], _∷_, map}
-use Prim.Native.Nat.{ℕ, zero, suc, _+_, _*_, _≤_, _<_}
+use mathlib.Core.Path.{_≡_, refl, ap, _∙_}
+use mathlib.Core.List.{List, [], map}
+use Prim.Native.Nat.{ℕ, _+_, _*_, _≤_}
 use native.Mathlib.Omega.{arith}
 use lib.Dec.{eqb}
 use Rattle.algebra.specs.Lists.{any}
-use lib.ListN.{length, getD, replicate, length-replicate, getD-replicate}
+use lib.ListN.{length, replicate, length-replicate, getD-replicate}
 use Rattle.algebra.specs.Sort.{Sort, subject, object, action}
 use Rattle.algebra.specs.Stored.{noAtom, noRule}
 use Rattle.algebra.specs.declared.StoredRule.{StoredRule}
 use Rattle.names.specs.Entries.{Group, Sound, entries, memberBase, memberCount}
 use Rattle.names.specs.declared.NameCounts.{NameCounts}
-use Rattle.reader.specs.Declarations.{Predicate, start, membersOf}
+use Rattle.reader.specs.Declarations.{start, membersOf}
 use Rattle.reader.specs.Rows.{placedLast, clash}
-use Rattle.state.specs.NameTables.{memberEntry, Names}
+use Rattle.state.specs.NameTables.{memberEntry}
 use Rattle.state.specs.Sorts.{Sorted, sortSeen}
-use Rattle.state.specs.Standing.{flag, grantsOf, granted, listedAt, Few, Sizes, Stands}
+use Rattle.state.specs.Standing.{flag, granted, listedAt, Stands}
 use Rattle.state.specs.declared.State.{State}
 
 abbrev no-rule : StoredRule

@@ -3,7 +3,7 @@ use mathlib.Core.Path.{_≡_, refl, sym, ap, ap₂, subst, _∙_}
 use mathlib.Core.Bool.{true, false}
 use mathlib.Core.List.{List, [], _∷_, map}
 use Prim.Native.Nat.{ℕ, _+_, _*_, _≤_, _<_}
-use native.Mathlib.Decide.{ℕ-discrete, decLt}
+use native.Mathlib.Decide.{ℕ-discrete}
 use native.Mathlib.Omega.{arith}
 use lib.Dec.{eqb}
 use lib.ListN.{length, getD, take, drop, length-take, length-drop, length-map, List·getD-map}
@@ -23,7 +23,7 @@ use Rattle.algebra.proofs.Program.{one}
 use Rattle.sets.specs.Bytes.{put}
 use Rattle.sets.specs.Sets.{byteAt, answerAt, setAt, putSet, Answers, operation, replaced, Stack, no-set, set-on}
 use Rattle.sets.specs.Grants.{grantsOf}
-use Rattle.sets.proofs.Sets.{answerOf-byte, length-putSet, putSet-low, putSet-at, putSet-high, putSet-cong}
+use Rattle.sets.proofs.Sets.{answerOf-byte, length-putSet, putSet-low, putSet-at, putSet-cong}
 
 -- ---- sets of a memory
 
@@ -59,14 +59,6 @@ module _ (k n : ℕ) (f : ℕ → Answer) (w : List ℕ) (fits : k * 4096 + n �
       ext-getD 0 (setAt k n u) (tab n (λ x. byte (f x))) (l ∙ sym (length-tab n _))
       (λ x b. let h : x < n = omega arith in getD-setAt k n u x h ∙ putSet-at k n f w fits x h ∙ sym (getD-tab n (λ x. byte (f x)) x 0 h))
       ∙ sym (map-tab n f)
-
-  -- the other sets stay
-  pub setAt-other : (j : ℕ) → n ≤ 4096 → (j ≡ k → ⊥) → setAt j n (putSet k n f w) ≡ setAt j n w
-  setAt-other j m ne = same-set j n w (putSet k n f w) (length-putSet k n f w fits) (λ x b. go x b (decLt j k))
-    where
-      go : (x : ℕ) → x < n → Dec (j < k) → byteAt j (putSet k n f w) x ≡ byteAt j w x
-      go x b (yes h) = putSet-low k n f w fits (j * 4096 + x) (omega arith)
-      go x b (no h) = putSet-high k n f w fits (j * 4096 + x) (omega arith)
 
 -- a set that is given as a list of answers
 values-tab : (n : ℕ) (u : List Answer) → length u ≡ n → tab n (valueAt u) ≡ u
@@ -117,9 +109,6 @@ stack-answers {n} {w} (set-on {v = v} {st = st} l e s) k h x b = go (set-on l e 
 -- the one set that is left
 pub stack-last : {n : ℕ} {w : List ℕ} {v : List Answer} → Stack n w (v ∷ []) → take n w ≡ map byte v
 stack-last (set-on l e s) = e
-
-pub stack-first : {n : ℕ} {w : List ℕ} {v : List Answer} → Stack n w (v ∷ []) → (x : ℕ) → x < n → getD w x 0 ≡ byte (valueAt v x)
-stack-first {w = w} s x h = ap (λ i. getD w i 0) (omega arith) ∙ stack-byte s x h
 
 -- a closure has an answer for each access
 pub length-shut : (n : ℕ) (G : List Clause) (lim : ℕ) (a : Ran) → length (shut n G lim a .values) ≡ n

@@ -1,5 +1,5 @@
 -- Check, from what the reading tells.
-use mathlib.Core.Path.{_≡_, refl, sym, ap, _∙_}
+use mathlib.Core.Path.{_≡_, sym, ap, _∙_}
 use mathlib.Core.List.{List}
 use Prim.Native.Nat.{ℕ}
 use Rattle.algebra.specs.Sort.{Sort, subject, object, action}
@@ -11,7 +11,6 @@ use Rattle.reader.proofs.Members.{file-sane}
 use Rattle.state.proofs.NameTables.{count-is}
 use Rattle.reading.specs.Reading.{ReadGood}
 use Rattle.reading.specs.declared.Reading.{Reading}
-use Rattle.engine.specs.Calls as Calls
 use Rattle.engine.specs.Calls.{checked, check}
 
 pub check-no : (f : List ℕ) (k l p : ℕ) → readFile f ≡ refused k l p

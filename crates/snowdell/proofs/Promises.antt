@@ -2,11 +2,11 @@
 use mathlib.Core.Path.{_≡_, sym, ap, _∙_}
 use mathlib.Core.Bool.{Bool, true}
 use mathlib.Core.List.{List}
-use Prim.Native.Nat.{ℕ, _<_}
+use Prim.Native.Nat.{ℕ}
 use lib.ListN.{getD}
 use Rattle.engine.specs.Calls as Calls
 use Rattle.engine.specs.Calls.{compose, decide}
-use Rattle.engine.specs.Demands.{Says, composed, decided, Writes, Returns}
+use Rattle.engine.specs.Demands.{Says, composed, decided}
 use Rattle.engine.proofs.Demands.{demands}
 use Rattle.composing.specs.Composition.{composedOf}
 use Rattle.deciding.specs.Decision.{decidedOf}

@@ -1,10 +1,10 @@
 -- The state after a line stands for what is declared after it: members and tables.
 use mathlib.Core.Path.{_≡_, refl, sym, ap, ap₂, _∙_, subst}
-use mathlib.Core.Bool.{Bool, true, false}
+use mathlib.Core.Bool.{Bool}
 use mathlib.Core.List.{List, [], _∷_, _++_, map}
 use mathlib.Core.Logic.{_⊎_, inl, inr}
-use mathlib.Core.Option.{Option, none, some}
-use Prim.Native.Nat.{ℕ, zero, suc, _+_, _*_, _≤_, _<_}
+use mathlib.Core.Option.{Option}
+use Prim.Native.Nat.{ℕ, suc, _+_, _*_, _≤_, _<_}
 use native.Mathlib.Decide.{decLt}
 use native.Mathlib.Omega.{arith}
 use native.Mathlib.Numerals.{add-one}
@@ -18,8 +18,7 @@ use Rattle.reader.specs.Declarations.{Member, Members, Table, Declared, members
 use Rattle.reader.proofs.Members.{sort-low}
 use Rattle.reader.specs.Rows.{most}
 use Rattle.reader.specs.File.{add}
-use Rattle.state.specs.NameTables.{parentTag, memberEntry, predicateEntry, tableEntry, setEntry, Names}
-use Rattle.state.proofs.NameTables.{count-is, tables-are}
+use Rattle.state.specs.NameTables.{parentTag, memberEntry, tableEntry, Names}
 use Rattle.state.specs.Standing.{grantsOf, Few, Sizes, Stands, placedOf, moreMembers, moreTables}
 use Rattle.state.proofs.Within.{more-member, more-table}
 use Rattle.state.proofs.AllGrants.{granted-more}

@@ -1,18 +1,15 @@
 -- Laws of the entries: one more in a group, and the other groups as they were.
-use mathlib.Core.Path.{_≡_, refl, sym, ap, ap₂, _∙_, subst}
-use mathlib.Core.Bool.{Bool, true, false}
-use mathlib.Core.List.{List, [], _∷_, _++_, map}
+use mathlib.Core.Path.{_≡_, sym, ap, ap₂, _∙_}
+use mathlib.Core.List.{List, [], _∷_, _++_}
 use mathlib.Core.Logic.{_⊎_, inl, inr}
-use Prim.Native.Nat.{ℕ, zero, suc, _+_, _*_, _≤_, _<_}
+use Prim.Native.Nat.{ℕ, zero, suc, _+_, _≤_, _<_}
 use native.Mathlib.Decide.{ℕ-discrete}
 use native.Mathlib.Omega.{arith}
 use lib.ListN.{length, getD, set, length-set}
 use lib.Seq.{slice, getD-set-same, getD-set-other}
 use Rattle.algebra.specs.Lists.{tabFrom}
-use Rattle.algebra.specs.Sort.{Sort, subject, object, action}
 use Rattle.algebra.proofs.Lists.{tabFrom-cong}
-use Rattle.names.specs.Entries.{Entry, entryAt, entries, Group, Sound, memberBase, memberCount, predicateBase, tableBase, setBase}
-use Rattle.names.specs.declared.NameCounts.{NameCounts}
+use Rattle.names.specs.Entries.{Entry, entryAt, entries, Group}
 
 tab-snoc : {A : Type 0} (i n : ℕ) (g : ℕ → A) → tabFrom i (suc n) g ≡ tabFrom i n g ++ (g (i + n) ∷ [])
 tab-snoc i zero g = ap (λ (x : ℕ). g x ∷ []) (omega arith)

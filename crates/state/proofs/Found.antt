@@ -1,19 +1,18 @@
 -- A name that is found has a number below its group's count; the accesses are few where row 8 is not met.
-use mathlib.Core.Path.{_≡_, refl, sym, ap, _∙_, subst}
+use mathlib.Core.Path.{_≡_, sym, ap, _∙_}
 use mathlib.Core.Bool.{Bool, true, false, _&&_, _||_, false≢true}
-use mathlib.Core.List.{List, [], _∷_}
-use mathlib.Core.Option.{Option, none, some}
-use Prim.Native.Nat.{ℕ, zero, suc, _+_, _*_, _≤_, _<_}
+use mathlib.Core.List.{List}
+use mathlib.Core.Option.{some}
+use Prim.Native.Nat.{ℕ, _+_, _*_, _≤_, _<_}
 use native.Mathlib.Decide.{decLt}
 use native.Mathlib.Omega.{arith}
 use lib.ListN.{length, getD}
 use lib.Dec.{eqb, leb, ltb}
 use borrow.Author.Tests.{ltb-false, lt-ltb, le-leb}
-use Rattle.algebra.specs.Sort.{Sort, subject, object, action}
+use Rattle.algebra.specs.Sort.{subject, object, action}
 use Rattle.algebra.proofs.Lists.{length-tabFrom}
 use Rattle.grammar.specs.Names.{Kind, table, rule-set, member, predicate}
-use Rattle.grammar.specs.Lookup.{position}
-use Rattle.names.specs.Entries.{Entry, entryAt, entries, isEntry, lookupIn, memberBase, memberCount, predicateBase, tableBase, setBase, sortNumber}
+use Rattle.names.specs.Entries.{entryAt, entries, isEntry, lookupIn, memberBase, memberCount, predicateBase, tableBase, setBase, sortNumber}
 use Rattle.names.specs.declared.NameCounts.{NameCounts}
 use Rattle.reader.proofs.Lookup.{position-lt}
 use Rattle.state.specs.Judged.{badCountsOf}

@@ -1,10 +1,8 @@
 -- The state after a G line stands for what is declared after it.
 use mathlib.Core.Path.{_≡_, refl, sym, ap, ap₂, _∙_, subst}
-use mathlib.Core.Bool.{Bool, true, false}
 use mathlib.Core.List.{List, [], _∷_, _++_, map, append-nil, append-assoc}
-use mathlib.Core.Option.{Option, none, some}
 use Prim.Native.Nat.{ℕ, zero, suc, _+_, _*_, _/_, _%_, _≤_, _<_}
-use native.Mathlib.Decide.{ℕ-discrete, decLt}
+use native.Mathlib.Decide.{ℕ-discrete}
 use native.Mathlib.Omega.{arith}
 use native.Mathlib.Numerals.{add-one}
 use lib.Dec.{eqb}
@@ -13,11 +11,11 @@ use lib.Seq.{getD-set-same, getD-set-other, map-set-same}
 use borrow.Author.Tests.{eq-eqb, ne-eqb}
 use Rattle.algebra.specs.Lists.{gather, only, tabFrom, upto}
 use Rattle.grammar.specs.Lookup.{place}
-use Rattle.reader.specs.Line.{Line, grantLine}
+use Rattle.reader.specs.Line.{grantLine}
 use Rattle.reader.specs.Declarations.{Table, Declared, noTable, tableAt, accessOf, granting, withGrant}
 use Rattle.reader.specs.File.{add}
-use Rattle.state.specs.NameTables.{memberEntry, tableEntry, Names}
-use Rattle.state.specs.Standing.{grantAt, grantsOf, Few, Sizes, Stands, grantedOf, grantWritten}
+use Rattle.state.specs.NameTables.{tableEntry}
+use Rattle.state.specs.Standing.{grantAt, grantsOf, Stands, grantedOf, grantWritten}
 use Rattle.state.proofs.AllGrants.{granted-with}
 use Rattle.state.specs.declared.State.{State}
 

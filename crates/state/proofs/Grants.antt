@@ -1,27 +1,25 @@
 -- The verdict on a G line, by the ways through its code.
 use mathlib.Core.Path.{_≡_, refl, sym, ap, _∙_}
-use mathlib.Core.Bool.{Bool, true, false, not, _&&_, _||_}
+use mathlib.Core.Bool.{Bool, true, false, not, _&&_}
 use mathlib.Core.List.{List, [], _∷_}
 use mathlib.Core.Option.{Option, none, some}
-use Prim.Native.Nat.{ℕ, zero, suc, _+_, _*_, _≤_, _<_}
+use Prim.Native.Nat.{ℕ, _+_, _*_, _≤_, _<_}
 use native.Mathlib.Omega.{arith}
 use lib.ListN.{length, getD}
 use Rattle.algebra.specs.Sort.{Sort, subject, object, action}
 use Rattle.algebra.specs.Policy.{Rule, number}
-use Rattle.algebra.specs.Stored.{storedSort}
 use Rattle.algebra.proofs.Number.{number-lt}
-use Rattle.grammar.specs.Names.{Kind, table, member}
+use Rattle.grammar.specs.Names.{table, member}
 use Rattle.grammar.specs.Lookup.{found, place}
 use Rattle.names.specs.Entries.{lookupIn, memberCount, tableBase}
 use Rattle.names.specs.declared.NameCounts.{NameCounts}
 use Rattle.reader.specs.Line.{Line, grantLine}
-use Rattle.reader.specs.Declarations.{Declared, Table, noTable, tableAt, memberAt, membersOf, count, accessOf, groupOf}
+use Rattle.reader.specs.Declarations.{Declared, noTable, tableAt, memberAt, membersOf, count, accessOf, groupOf}
 use Rattle.reader.specs.Expression.{lookup}
-use Rattle.reader.specs.Rows.{good, refuse, first, rows, outOfOrder, withoutRule, badCounts, tooMany, declaredAlready, isMember, notDeclared, grantsAway, twoSorts, expressionRows}
+use Rattle.reader.specs.Rows.{refuse, first, rows, outOfOrder, withoutRule, badCounts, tooMany, declaredAlready, isMember, notDeclared, grantsAway, twoSorts, expressionRows}
 use Rattle.reader.proofs.Lookup.{position-lt}
 use Rattle.state.specs.Standing.{flag, NamesStand}
 use Rattle.state.specs.Judged.{lateOf, badCountsOf, GrantJudged}
-use Rattle.state.specs.declared.Granted.{Granted}
 use Rattle.state.specs.declared.Granted.the-variants.{Refused, Grant}
 use Rattle.state.proofs.Verdicts.{meets-4, meets-8, meets-6, meets-10, past-11, late-is, counts-are}
 

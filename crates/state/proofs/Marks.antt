@@ -3,14 +3,14 @@ use mathlib.Core.Path.{_≡_, refl, sym, ap, ap₂, _∙_, subst}
 use mathlib.Core.Bool.{Bool, true, false, _||_}
 use mathlib.Core.List.{List, [], _∷_, _++_, map}
 use mathlib.Core.Logic.{_⊎_, inl, inr}
-use mathlib.Core.Option.{Option, none, some}
+use mathlib.Core.Option.{none, some}
 use Prim.Native.Nat.{ℕ, zero, suc, _+_, _*_, _≤_, _<_}
-use native.Mathlib.Decide.{ℕ-discrete, decLt}
+use native.Mathlib.Decide.{ℕ-discrete}
 use native.Mathlib.Omega.{arith}
 use native.Mathlib.Numerals.{add-one}
 use lib.Dec.{eqb}
-use lib.ListN.{length, getD, set, length-set, length-map, List·getD-append, List·getD-eq-default}
-use lib.Seq.{slice, getD-set-same, getD-set-other, map-set-same, getD-append-seam}
+use lib.ListN.{length, getD, set, length-set}
+use lib.Seq.{slice, getD-set-same, getD-set-other, map-set-same}
 use borrow.Author.Tests.{eq-eqb, ne-eqb}
 use Rattle.algebra.specs.Sort.{Sort, subject, object, action}
 use Rattle.algebra.specs.Lists.{any}
@@ -20,13 +20,13 @@ use Rattle.names.specs.declared.NameCounts.{NameCounts}
 use Rattle.reader.specs.Line.{Line, predicateLine}
 use Rattle.reader.specs.Declarations.{Predicate, Declared, membersOf, memberAt, predicateAt, listing, withListed}
 use Rattle.reader.specs.File.{add}
-use Rattle.state.specs.NameTables.{memberEntry, predicateEntry, tableEntry, setEntry, Names}
+use Rattle.state.specs.NameTables.{memberEntry, predicateEntry, Names}
 use Rattle.state.proofs.NameTables.{predicates-are}
-use Rattle.state.specs.Standing.{flag, listedAt, Few, Sizes, Stands, placedOf, markedOf, morePredicates}
+use Rattle.state.specs.Standing.{flag, listedAt, Stands, placedOf, markedOf, morePredicates}
 use Rattle.state.proofs.Within.{more-predicate}
 use Rattle.state.specs.declared.State.{State}
 use Rattle.state.proofs.Entries.{entries-keep, entries-more, group-keep, group-more}
-use Rattle.state.proofs.Adding.{map-snoc, placed-sizes}
+use Rattle.state.proofs.Adding.{map-snoc}
 
 -- ---- what is listed
 

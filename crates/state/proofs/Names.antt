@@ -1,29 +1,28 @@
 -- The verdicts on S, O and A lines, T lines and P lines, by the ways through their code.
-use mathlib.Core.Path.{_≡_, refl, sym, ap, _∙_}
-use mathlib.Core.Bool.{Bool, true, false, cond, not, _&&_, _||_, and-false}
+use mathlib.Core.Path.{_≡_, refl, sym, _∙_}
+use mathlib.Core.Bool.{Bool, true, false, cond, not, and-false}
 use mathlib.Core.List.{List, [], _∷_}
 use mathlib.Core.Option.{Option, none, some}
-use Prim.Native.Nat.{ℕ, zero, suc, _+_, _*_, _≤_, _<_}
+use Prim.Native.Nat.{ℕ, zero, suc, _≤_, _<_}
 use native.Mathlib.Omega.{arith}
-use lib.ListN.{length, getD}
-use lib.Dec.{eqb, leb, ltb}
-use borrow.Author.Tests.{le-leb, lt-leb, leb-true, leb-false, eq-eqb, ne-eqb}
+use lib.Dec.{leb, ltb}
+use borrow.Author.Tests.{le-leb, lt-leb, leb-true, leb-false}
 use Rattle.algebra.specs.Sort.{Sort, subject, object, action}
 use Rattle.algebra.specs.Policy.{Rule}
 use Rattle.algebra.specs.Stored.{storedSort}
-use Rattle.grammar.specs.Names.{Kind, table, member, predicate}
+use Rattle.grammar.specs.Names.{table, member, predicate}
 use Rattle.grammar.specs.Lookup.{found}
 use Rattle.names.specs.Entries.{lookupIn, memberCount}
 use Rattle.names.specs.declared.NameCounts.{NameCounts}
 use Rattle.reader.specs.Line.{Line, memberLine, predicateLine, tableLine}
 use Rattle.reader.specs.Declarations.{Declared, sortGroup, tableAt, memberAt, predicateAt, count, groupOf}
 use Rattle.reader.specs.Expression.{lookup}
-use Rattle.reader.specs.Rows.{good, refuse, first, rows, outOfOrder, withoutRule, badCounts, most, tooMany, declaredAlready, isMember, notDeclared, grantsAway, twoSorts, expressionRows}
+use Rattle.reader.specs.Rows.{first, outOfOrder, withoutRule, badCounts, most, tooMany, declaredAlready, isMember, notDeclared, grantsAway, twoSorts, expressionRows}
 use Rattle.rows.specs.First.{firstMet}
 use Rattle.state.specs.Standing.{NamesStand}
 use Rattle.state.specs.Judged.{lateOf, badCountsOf, MemberJudged, member-refused, member-passes, TableJudged, table-refused, table-passes, PredicateJudged}
 use Rattle.state.specs.declared.Marking.the-variants.{Unmarked, Known, Fresh}
-use Rattle.state.proofs.Verdicts.{meets-4, meets-8, meets-7, meets-5, meets-6, past-11}
+use Rattle.state.proofs.Verdicts.{meets-8, meets-7, meets-5, meets-6, past-11}
 use Rattle.state.proofs.Grants.{early-4, in-order, counted}
 use Rattle.names.proofs.Lookup.{sort-zero, sort-one, sort-other}
 

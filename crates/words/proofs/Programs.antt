@@ -6,7 +6,7 @@ use Prim.Native.Nat.{ℕ, _+_, _≤_, _<_, max}
 use lib.ListN.{set}
 use borrow.Author.Tests.{lt-ltb, le-ltb, leb-true}
 use lib.Dec.{leb}
-use mathlib.Core.Bool.{Bool, true, false, _&&_, false≢true}
+use mathlib.Core.Bool.{true, _&&_, false≢true}
 use Rattle.algebra.proofs.Bool.{and-left, and-right}
 use Rattle.grammar.specs.Names.{Kind}
 use Rattle.grammar.specs.Lookup.{place}
