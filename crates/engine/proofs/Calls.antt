@@ -63,7 +63,7 @@ written-beyond bs r x h =
 
 pub data Composes (f r m : List ℕ) : Composed → Type 0 where
   too-short : Composes f r m (unchanged 1 0 0 r m)
-  not-read : (k l p : ℕ) → 2 ≤ k → 4096 ≤ length r → 65536 ≤ length m → Composes f r m (unchanged k l p r (cleared m))
+  not-read : (k l p : ℕ) → (2 ≤ k) × (k ≤ 14) → 4096 ≤ length r → 65536 ≤ length m → Composes f r m (unchanged k l p r (cleared m))
   answers : (a : Accepted) → readFile f ≡ accepted a → 4096 ≤ length r → 65536 ≤ length m → Composes f r m (composition (a .policy) r m)
 
 pub composes : (f r m : List ℕ) → Composes f r m (compose f r m)
@@ -83,7 +83,7 @@ composes f r m = go (leb 4096 (length r) && leb 65536 (length m)) refl
 
 pub data Decides (f s o a m : List ℕ) : Decided → Type 0 where
   too-short : Decides f s o a m (undecidedBy 1 0 0 m)
-  not-read : (k l p : ℕ) → 2 ≤ k → 65536 ≤ length m → Decides f s o a m (undecidedBy k l p (cleared m))
+  not-read : (k l p : ℕ) → (2 ≤ k) × (k ≤ 15) → 65536 ≤ length m → Decides f s o a m (undecidedBy k l p (cleared m))
   answers : (x : Accepted) → readFile f ≡ accepted x → (i j k : ℕ) → memberAt (x .members) subject s ≡ some i → memberAt (x .members) object o ≡ some j
       → memberAt (x .members) action a ≡ some k → 65536 ≤ length m → Decides f s o a m (answered (x .policy) (some i) (some j) (some k) (cleared m))
 
@@ -93,13 +93,13 @@ decides f s o a m = go (leb 65536 (length m)) refl
   where
     named : (x : Accepted) → readFile f ≡ accepted x → 65536 ≤ length m → (i j k : Option ℕ) → memberAt (x .members) subject s ≡ i → memberAt (x .members) object o ≡ j
         → memberAt (x .members) action a ≡ k → Decides f s o a m (answered (x .policy) i j k (cleared m))
-    named x e h none j k p q r = not-read 15 0 1 (omega arith) h
-    named x e h (some i) none k p q r = not-read 15 0 2 (omega arith) h
-    named x e h (some i) (some j) none p q r = not-read 15 0 3 (omega arith) h
+    named x e h none j k p q r = not-read 15 0 1 (omega arith, omega arith) h
+    named x e h (some i) none k p q r = not-read 15 0 2 (omega arith, omega arith) h
+    named x e h (some i) (some j) none p q r = not-read 15 0 3 (omega arith, omega arith) h
     named x e h (some i) (some j) (some k) p q r = answers x e i j k p q r h
 
     by : (w : Outcome) → readFile f ≡ w → 65536 ≤ length m → Decides f s o a m (decided w s o a m)
-    by (refused k l p) e h = not-read k l p (refused-number f k l p e) h
+    by (refused k l p) e h = let n = refused-number f k l p e in not-read k l p (n .0, let t = n .1 in omega arith) h
     by (accepted x) e h = named x e h _ _ _ refl refl refl
 
     go : (b : Bool) → leb 65536 (length m) ≡ b → Decides f s o a m (elim b [ true ↦ decided (readFile f) s o a m | false ↦ undecidedBy 1 0 0 m ])

@@ -30,6 +30,14 @@ pub record KnownState (f s o a r m : List ℕ) : Type 0 where
   pub decide-short : decide f s o a m .number ≡ 1 → decide f s o a m .memory ≡ m
   pub decide-length : length (decide f s o a m .memory) ≡ length m
 
+-- ---- demand 1: numbers
+
+-- "it is decided or refused with a number from document 01": 0 when accepted, else one of the table's; row 15 is Decide's alone
+pub record Numbered (f s o a r m : List ℕ) : Type 0 where
+  pub check-number : check f .number ≤ 14
+  pub compose-number : compose f r m .number ≤ 14
+  pub decide-number : decide f s o a m .number ≤ 15
+
 -- ---- demand 2's set
 
 -- "A table here is the set of its grants; an away one is the set it later brings": `later` gives those sets, by the table's number
@@ -109,6 +117,7 @@ ParentsEarlier (accepted a) = Ordered (parents (a .policy .frame) subject) × Or
 -- All of it.
 pub record Demands : Type 1 where
   pub known-state : (f s o a r m : List ℕ) → KnownState f s o a r m
+  pub numbered : (f s o a r m : List ℕ) → Numbered f s o a r m
   pub sound : (f : List ℕ) → Sound f
   pub complete : (f : List ℕ) → Complete f
   pub stable : (f f′ : List ℕ) → Stable f f′

@@ -1,6 +1,6 @@
 -- What an accepted line and an accepted file have met, or not met.
 use mathlib.Core.Path.{_≡_, refl, sym, ap, _∙_, subst}
-use mathlib.Core.Bool.{Bool, true, false}
+use mathlib.Core.Bool.{Bool, true, false, _&&_}
 use mathlib.Core.List.{List, [], _∷_}
 use mathlib.Core.Option.{Option, none, some}
 use Prim.Native.Nat.{ℕ, suc, _≤_}
@@ -99,22 +99,32 @@ accepted-lines f a e = go (isFile f) e
     go true p = p
     go false p = absurd (let z : _≡_ {A = ℕ} 0 1 = cc in omega arith)
 
--- ---- the numbers of refusals: none is 0 or 1
+-- ---- the numbers of refusals: those of the table that a file can meet, 2 to 14
 
-first-number : (rs : List Row) (k p : ℕ) → all (λ (r : Row). leb 2 (r .number)) rs ≡ true → first rs ≡ refuse k p → 2 ≤ k
+numberOf : ℕ → Bool
+numberOf n = leb 2 n && leb n 14
+
+Numbered : ℕ → Type 0
+Numbered k = (2 ≤ k) × (k ≤ 14)
+
+number-is : (n : ℕ) → numberOf n ≡ true → Numbered n
+unfolding numberOf Numbered
+number-is n h = (leb-true 2 n (and-left _ (leb n 14) h), leb-true n 14 (and-right (leb 2 n) _ h))
+
+first-number : (rs : List Row) (k p : ℕ) → all (λ (r : Row). numberOf (r .number)) rs ≡ true → first rs ≡ refuse k p → Numbered k
 unfolding first
 first-number [] k p h e = absurd (let z : _≡_ {A = ℕ} 0 1 = cc in omega arith)
 first-number (r ∷ rs) k p h e =
-    go (first-number rs k p (and-right (leb 2 (r .number)) (all (λ (r : Row). leb 2 (r .number)) rs) h)) (r .met)
-    (leb-true 2 (r .number) (and-left _ (all (λ (r : Row). leb 2 (r .number)) rs) h)) e
+    go (first-number rs k p (and-right (numberOf (r .number)) (all (λ (r : Row). numberOf (r .number)) rs) h)) (r .met)
+    (number-is (r .number) (and-left _ (all (λ (r : Row). numberOf (r .number)) rs) h)) e
   where
-    go : (first rs ≡ refuse k p → 2 ≤ k) → (o : Option ℕ) → 2 ≤ r .number
-        → _≡_ {A = Verdict} (elim o [ none ↦ first rs | some q ↦ refuse (r .number) q ]) (refuse k p) → 2 ≤ k
+    go : (first rs ≡ refuse k p → Numbered k) → (o : Option ℕ) → Numbered (r .number)
+        → _≡_ {A = Verdict} (elim o [ none ↦ first rs | some q ↦ refuse (r .number) q ]) (refuse k p) → Numbered k
     go rest none n q = rest q
-    go rest (some x) n q = let y : r .number ≡ k = cc in omega arith
+    go rest (some x) n q = let y : r .number ≡ k = cc in subst Numbered y n
 
-numbered : (d : Declared) (l : Line) → all (λ (r : Row). leb 2 (r .number)) (rows d l) ≡ true
-unfolding rows row expressionRows
+numbered : (d : Declared) (l : Line) → all (λ (r : Row). numberOf (r .number)) (rows d l) ≡ true
+unfolding rows row expressionRows numberOf
 numbered d (memberLine σ n p) = refl
 numbered d (predicateLine σ p m) = refl
 numbered d (tableLine t h) = refl
@@ -123,33 +133,37 @@ numbered d (ruleLine r s o a) = refl
 numbered d (bodyLine b) = refl
 numbered d (expressionLine n t) = refl
 
+rows-numbered : (d : Declared) (l : Line) (k p : ℕ) → first (rows d l) ≡ refuse k p → Numbered k
+rows-numbered d l k p e = first-number (rows d l) k p (numbered d l) e
+
 pub rows-number : (d : Declared) (l : Line) (k p : ℕ) → first (rows d l) ≡ refuse k p → 2 ≤ k
-rows-number d l k p e = first-number (rows d l) k p (numbered d l) e
+unfolding Numbered
+rows-number d l k p e = rows-numbered d l k p e .0
 
-judge-number : (d : Declared) (o : Option Line) (k p : ℕ) → judge d o ≡ refuse k p → 2 ≤ k
-unfolding judge
-judge-number d none k p e = let y : 3 ≡ k = cc in omega arith
-judge-number d (some l) k p e = rows-number d l k p e
+judge-number : (d : Declared) (o : Option Line) (k p : ℕ) → judge d o ≡ refuse k p → Numbered k
+unfolding judge numberOf
+judge-number d none k p e = let y : 3 ≡ k = cc in subst Numbered y (number-is 3 refl)
+judge-number d (some l) k p e = rows-numbered d l k p e
 
-ended-number : (d : Declared) (g : Option Goal) (k l p : ℕ) → ended d g ≡ refused k l p → 2 ≤ k
-unfolding ended
-ended-number d none k l p e = let y : 9 ≡ k = cc in omega arith
+ended-number : (d : Declared) (g : Option Goal) (k l p : ℕ) → ended d g ≡ refused k l p → Numbered k
+unfolding ended numberOf
+ended-number d none k l p e = let y : 9 ≡ k = cc in subst Numbered y (number-is 9 refl)
 ended-number d (some g) k l p e = absurd (let z : _≡_ {A = ℕ} 0 1 = cc in omega arith)
 
-lines-number : (n : ℕ) (d : Declared) (ls : List (List ℕ)) (k l p : ℕ) → readLines n d ls ≡ refused k l p → 2 ≤ k
+lines-number : (n : ℕ) (d : Declared) (ls : List (List ℕ)) (k l p : ℕ) → readLines n d ls ≡ refused k l p → Numbered k
 unfolding readLines
 lines-number n d [] k l p e = ended-number d (d .goal) k l p e
 lines-number n d (x ∷ ls) k l p e = go (lines-number (suc n) (after d (parse x)) ls k l p) (judge d (parse x)) refl e
   where
-    go : (readLines (suc n) (after d (parse x)) ls ≡ refused k l p → 2 ≤ k) → (v : Verdict) → judge d (parse x) ≡ v
-        → _≡_ {A = Outcome} (elim v [ good ↦ readLines (suc n) (after d (parse x)) ls | refuse j q ↦ refused j n q ]) (refused k l p) → 2 ≤ k
+    go : (readLines (suc n) (after d (parse x)) ls ≡ refused k l p → Numbered k) → (v : Verdict) → judge d (parse x) ≡ v
+        → _≡_ {A = Outcome} (elim v [ good ↦ readLines (suc n) (after d (parse x)) ls | refuse j q ↦ refused j n q ]) (refused k l p) → Numbered k
     go rest good h q = rest q
-    go rest (refuse j r) h q = let y : j ≡ k = cc in subst (λ (i : ℕ). 2 ≤ i) y (judge-number d (parse x) j r h)
+    go rest (refuse j r) h q = let y : j ≡ k = cc in subst Numbered y (judge-number d (parse x) j r h)
 
-pub refused-number : (f : List ℕ) (k l p : ℕ) → readFile f ≡ refused k l p → 2 ≤ k
-unfolding readFile
+pub refused-number : (f : List ℕ) (k l p : ℕ) → readFile f ≡ refused k l p → (2 ≤ k) × (k ≤ 14)
+unfolding readFile Numbered numberOf
 refused-number f k l p e = go (isFile f) e
   where
-    go : (b : Bool) → _≡_ {A = Outcome} (elim b [ true ↦ readLines 1 start (lines f) | false ↦ refused 2 0 0 ]) (refused k l p) → 2 ≤ k
+    go : (b : Bool) → _≡_ {A = Outcome} (elim b [ true ↦ readLines 1 start (lines f) | false ↦ refused 2 0 0 ]) (refused k l p) → Numbered k
     go true q = lines-number 1 start (lines f) k l p q
-    go false q = let y : 2 ≡ k = cc in omega arith
+    go false q = let y : 2 ≡ k = cc in subst Numbered y (number-is 2 refl)
