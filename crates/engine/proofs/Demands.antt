@@ -25,6 +25,7 @@ use Rattle.reader.proofs.Later.{AcceptedFollows, later-accepted}
 use Rattle.algebra.specs.Bytes.{cleared, written}
 use Rattle.engine.specs.Calls.{Composed, Decided, checked, check, unchanged, composition, compose, undecidedBy, answered, decide}
 use Rattle.engine.specs.Demands.{KnownState, Numbered, inSet, AllHere, Names, Writes, Returns, Says, composed, decided, Sound, Complete, Stable, Agree, ParentsEarlier, Demands}
+use Rattle.engine.proofs.Places.{places}
 use Rattle.engine.proofs.Calls.{length-cleared, cleared-zero, cleared-beyond, length-written, written-at, written-beyond, Composes, too-short, not-read, answers, composes, Decides, decides}
 
 -- ---- demand 1
@@ -297,4 +298,4 @@ parents-earlier f = go (readFile f) refl
     go (accepted a) e = let w = file-sane f a e .is-ordered in (w subject, w object, w action)
 
 pub demands : Demands
-demands = record { known-state = known-state; numbered = numbered; sound = sound; complete = complete; stable = stable; agree = agree; parents-earlier = parents-earlier }
+demands = record { known-state = known-state; numbered = numbered; sound = sound; complete = complete; stable = stable; agree = agree; parents-earlier = parents-earlier; places = places }

@@ -9,10 +9,11 @@ use lib.ListN.{length, getD, drop}
 use Rattle.algebra.specs.Sort.{subject, object, action}
 use Rattle.algebra.specs.Order.{Ordered}
 use Rattle.algebra.specs.Policy.{Policy, accesses, parents, members, number, tableAt, policySet, policyRounds}
-use Rattle.reader.specs.Declarations.{memberAt}
+use Rattle.reader.specs.Declarations.{Declared, memberAt}
 use Rattle.reader.specs.File.{Accepted, Outcome, refused, accepted, readFile}
 use Rattle.reader.specs.Later.{LaterFile}
 use Rattle.engine.specs.Calls.{Checked, Composed, Decided, check, compose, decide}
+use Rattle.engine.specs.Places.{Places}
 
 -- ---- demand 1: memory
 
@@ -123,3 +124,4 @@ pub record Demands : Type 1 where
   pub stable : (f f′ : List ℕ) → Stable f f′
   pub agree : (f s o a r m m′ : List ℕ) → Agree f s o a r m m′
   pub parents-earlier : (f : List ℕ) → ParentsEarlier (readFile f)
+  pub places : (d : Declared) (limit : ℕ) (t : List ℕ) → Places d limit t

@@ -9,10 +9,14 @@ use lib.Dec.{leb}
 use borrow.Author.Tests.{leb-true}
 use Rattle.algebra.specs.Lists.{all}
 use Rattle.algebra.proofs.Bool.{and-left, and-right}
+use Rattle.grammar.specs.Expression.{Exp}
+use Rattle.grammar.specs.Machine.{Reading, read, wrong, reading}
+use Rattle.grammar.specs.Names.{missing}
 use Rattle.reader.specs.Text.{lines}
 use Rattle.reader.specs.Line.{Line, memberLine, predicateLine, tableLine, grantLine, ruleLine, bodyLine, expressionLine, parse}
 use Rattle.reader.specs.Declarations.{Declared, Goal, start}
-use Rattle.reader.specs.Rows.{Row, row, if, Verdict, good, refuse, first, rows, outOfOrder, badCounts, tooMany, declaredAlready, notDeclared, grantsAway, twoSorts, expressionRows}
+use Rattle.reader.specs.Expression.{isDeclared}
+use Rattle.reader.specs.Rows.{Row, row, if, Verdict, good, refuse, first, rows, outOfOrder, badCounts, tooMany, declaredAlready, notDeclared, grantsAway, twoSorts, notOfGrammar, nameNotDeclared, expressionRows}
 use Rattle.reader.specs.File.{Accepted, Outcome, refused, accepted, isFile, ended, judge, after, add, readLines, readFile}
 
 -- a row that a good line did not meet, and the rows after it
@@ -167,3 +171,54 @@ refused-number f k l p e = go (isFile f) e
     go : (b : Bool) → _≡_ {A = Outcome} (elim b [ true ↦ readLines 1 start (lines f) | false ↦ refused 2 0 0 ]) (refused k l p) → Numbered k
     go true q = lines-number 1 start (lines f) k l p q
     go false q = let y : 2 ≡ k = cc in subst Numbered y (number-is 2 refl)
+
+-- ---- rows 12 and 13: what the expression's text is read as, where they are met
+
+-- a row of another number is not the one met
+skip : (r : Row) (rs : List Row) (k p : ℕ) → ¬ (r .number ≡ k) → first (r ∷ rs) ≡ refuse k p → first rs ≡ refuse k p
+unfolding first
+skip r rs k p h e = go (r .met) e
+  where
+    go : (o : Option ℕ) → _≡_ {A = Verdict} (elim o [ none ↦ first rs | some q ↦ refuse (r .number) q ]) (refuse k p) → first rs ≡ refuse k p
+    go none q = q
+    go (some x) q = absurd (h (let y : r .number ≡ k = cc in y))
+
+-- where no row after it is met, it is this one
+met-here : (o : Option ℕ) (rs : List Row) (k p : ℕ) → ¬ (first rs ≡ refuse k p) → first (row k o ∷ rs) ≡ refuse k p → o ≡ some p
+unfolding first row
+met-here none rs k p h e = absurd (h e)
+met-here (some q) rs k p h e = let y : q ≡ p = cc in ap some y
+
+not-empty : (k p : ℕ) → ¬ (first [] ≡ refuse k p)
+unfolding first
+not-empty k p e = absurd (let z : _≡_ {A = ℕ} 0 1 = cc in omega arith)
+
+-- past the rows that every line has
+past-seven : (d : Declared) (l : Line) (k p : ℕ) → 12 ≤ k → first (rows d l) ≡ refuse k p → first (expressionRows d l) ≡ refuse k p
+unfolding rows row
+past-seven d l k p h e =
+    skip _ _ k p (λ z. omega arith) (skip _ _ k p (λ z. omega arith) (skip _ _ k p (λ z. omega arith) (skip _ _ k p (λ z. omega arith)
+    (skip _ _ k p (λ z. omega arith) (skip _ _ k p (λ z. omega arith) (skip _ _ k p (λ z. omega arith) e))))))
+
+is-wrong : (r : Reading) (p : ℕ) → notOfGrammar r ≡ some p → r ≡ wrong p
+unfolding notOfGrammar
+is-wrong (read x) p e = absurd (let z : _≡_ {A = ℕ} 0 1 = cc in omega arith)
+is-wrong (wrong q) p e = let y : q ≡ p = cc in ap wrong y
+
+is-read : (d : Declared) (r : Reading) (p : ℕ) → nameNotDeclared d r ≡ some p → (e : Exp) × (r ≡ read e) × (missing (isDeclared d) e ≡ some p)
+unfolding nameNotDeclared
+is-read d (read x) p e = (x, refl, e)
+is-read d (wrong q) p e = absurd (let z : _≡_ {A = ℕ} 0 1 = cc in omega arith)
+
+pub row-12-is : (d : Declared) (n : ℕ) (t : List ℕ) (p : ℕ) → first (rows d (expressionLine n t)) ≡ refuse 12 p → reading t ≡ wrong p
+unfolding expressionRows row
+row-12-is d n t p e =
+    is-wrong (reading t) p (met-here _ _ 12 p (λ h. not-empty 12 p (skip _ _ 12 p (λ z. omega arith) (skip _ _ 12 p (λ z. omega arith) h)))
+    (past-seven d (expressionLine n t) 12 p (omega arith) e))
+
+pub row-13-is : (d : Declared) (n : ℕ) (t : List ℕ) (p : ℕ) → first (rows d (expressionLine n t)) ≡ refuse 13 p
+    → (e : Exp) × (reading t ≡ read e) × (missing (isDeclared d) e ≡ some p)
+unfolding expressionRows row
+row-13-is d n t p e =
+    is-read d (reading t) p (met-here _ _ 13 p (λ h. not-empty 13 p (skip _ _ 13 p (λ z. omega arith) h))
+    (skip _ _ 13 p (λ z. omega arith) (past-seven d (expressionLine n t) 13 p (omega arith) e)))
