@@ -2,6 +2,10 @@
  *
  * Each call writes its numbers to `numbers`: number, line and place first, all 0 when accepted. Where `numbers_len` is
  * smaller than the count given below, nothing at all is done. A pointer comes with the length of what it points to.
+ *
+ * The proof takes this for granted, and nothing checks it here: every pointer is not null and points to as many bytes, or
+ * aligned numbers, as its length says, all of them initialised; what is written to (result, memory, numbers) overlaps
+ * nothing else that is passed; and no other thread uses it during the call.
  */
 #ifndef SNOWDELL_H
 #define SNOWDELL_H

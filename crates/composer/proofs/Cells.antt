@@ -14,13 +14,13 @@ use Rattle.algebra.specs.Stored.{storedSort, storedOp}
 use Rattle.algebra.specs.StoredFrame as Frames
 use Rattle.algebra.specs.StoredFrame.{sizeOf, Stands}
 use Rattle.algebra.specs.declared.Counts.{Counts}
-use Rattle.sets.specs.Scopes.{storedScope, Coded, Names}
-use Rattle.sets.specs.declared.StoredScope.{StoredScope}
-use Rattle.expressions.specs.Cells.{cellOf}
-use Rattle.expressions.specs.declared.Cell.{Cell}
+use Rattle.scopes.specs.Scopes.{storedScope, Coded, Names}
+use Rattle.scopes.specs.declared.StoredScope.{StoredScope}
+use Rattle.words.specs.Cells.{cellOf}
+use Rattle.words.specs.declared.Cell.{Cell}
 use Rattle.composer.specs.Compose.{Fits}
 use Rattle.composer.specs.Turn.{Held}
-use Rattle.sets.proofs.Scopes.{stored-compared}
+use Rattle.scopes.proofs.Scopes.{stored-compared}
 
 module _ (c : Cell) where
   pub cell-table : c .kind ≡ 0 → cellOf c ≡ table-step (c .number)

@@ -28,8 +28,8 @@ use Rattle.sets.proofs.Bytes.{put-high, part-put}
 use Rattle.sets.proofs.Sets.{answerOf-byte, putSet-high}
 use Rattle.sets.proofs.Stack.{stack-answers, length-shut, step-table, step-plus, step-both, step-minus, step-override, step-scope, step-closure, here-answers, away-answers}
 use Rattle.closure.specs.Closed.{answersOf, ClosedTo}
-use Rattle.expressions.specs.Cells.{cellOf}
-use Rattle.expressions.specs.declared.Cell.{Cell}
+use Rattle.words.specs.Cells.{cellOf}
+use Rattle.words.specs.declared.Cell.{Cell}
 use Rattle.composer.specs.Compose.{TableIs}
 use Rattle.composer.specs.Turn.{roundsOf, ClosedAt, Steps, Stepped}
 use Rattle.composer.proofs.Cells.{cell-table, cell-plus, cell-both, cell-minus, cell-override, cell-closure}

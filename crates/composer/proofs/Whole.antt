@@ -21,9 +21,9 @@ use Rattle.algebra.proofs.Program.{exec, length-one, exec-append, exec-steps, p
 use Rattle.sets.specs.Sets.{Stack, no-set}
 use Rattle.sets.specs.Grants.{grantAt, grantsOf}
 use Rattle.sets.proofs.Stack.{stack-last}
-use Rattle.expressions.specs.Cells.{cell, cellOf}
-use Rattle.expressions.specs.declared.Cell.{Cell}
-use Rattle.expressions.specs.declared.Program.{Program}
+use Rattle.words.specs.Cells.{cell, cellOf}
+use Rattle.words.specs.declared.Cell.{Cell}
+use Rattle.words.specs.declared.Program.{Program}
 use Rattle.composer.specs.Compose.{TableIs, cellAt, programOf, Composes, Composed}
 use Rattle.composer.specs.Turn.{roundsOf, Held, Steps, Stepped}
 

@@ -14,10 +14,10 @@ use Rattle.algebra.specs.StoredFrame.{sizeOf, total, parentsOf}
 use Rattle.algebra.specs.declared.Counts.{Counts}
 use Rattle.algebra.specs.declared.StoredRule.{StoredRule}
 use Rattle.sets.specs.Grants.{grantsOf}
-use Rattle.closure.specs.Stored.{Ready, Stored}
-use Rattle.expressions.specs.Cells.{cell, cellOf}
-use Rattle.expressions.specs.declared.Cell.{Cell}
-use Rattle.expressions.specs.declared.Program.{Program}
+use Rattle.plans.specs.Stored.{Ready, Stored}
+use Rattle.words.specs.Cells.{cell, cellOf}
+use Rattle.words.specs.declared.Cell.{Cell}
+use Rattle.words.specs.declared.Program.{Program}
 
 -- a table of the list: whether it is here, which is 1 among the flags, and then its grants
 pub record TableIs (ts : List Table) (here : List ℕ) (grants : ℕ) (w : List ℕ) (i : ℕ) : Type 0 where

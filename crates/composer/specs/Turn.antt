@@ -14,10 +14,10 @@ use Rattle.algebra.specs.declared.Counts.{Counts}
 use Rattle.algebra.specs.declared.StoredRule.{StoredRule}
 use Rattle.sets.specs.Bytes.{put}
 use Rattle.sets.specs.Sets.{setAt, Stack}
-use Rattle.closure.specs.Stored.{Stored}
+use Rattle.plans.specs.Stored.{Stored}
 use Rattle.closure.specs.Closed.{answersOf}
-use Rattle.expressions.specs.Cells.{cellOf}
-use Rattle.expressions.specs.declared.Cell.{Cell}
+use Rattle.words.specs.Cells.{cellOf}
+use Rattle.words.specs.declared.Cell.{Cell}
 use Rattle.composer.specs.Compose.{TableIs}
 
 -- the rounds of the sets on the stack

@@ -13,22 +13,22 @@ ghost use Rattle.algebra.specs.Policy.{Frame, Table, Policy, members, tableAnsw
 ghost use Rattle.algebra.specs.StoredFrame.{total, sizeOf, parentsOf, Stands};
 ghost use Rattle.algebra.specs.declared.Counts.{Counts};
 ghost use Rattle.sets.specs.Sets.{putSet, Room};
-ghost use Rattle.closure.specs.Stored.{Ready, Stored};
-ghost use Rattle.expressions.specs.Cells.{cellOf};
+ghost use Rattle.plans.specs.Stored.{Ready, Stored};
+ghost use Rattle.words.specs.Cells.{cellOf};
 ghost use Rattle.composer.specs.Compose.{TableIs, Fits, Sized, Composes, Composed, Listed};
 ghost use Rattle.composer.specs.Turn.{ClosedAt, Held, Steps, Stepped};
 use algebra::Counts;
 use algebra::StoredRule;
 use closure::closure;
-use closure::fill_order;
-use expressions::Cell;
-use expressions::Program;
-use sets::StoredScope;
+use grants::fill_here;
+use orders::fill_order;
+use scopes::StoredScope;
+use scopes::scope;
 use sets::combine;
 use sets::fill_away;
-use sets::fill_here;
 use sets::replace;
-use sets::scope;
+use words::Cell;
+use words::Program;
 
 fn wide(x: u8) -> usize
     ensures { λ r. ⌜ (r ≡ x) × (r < 256) ⌝ }

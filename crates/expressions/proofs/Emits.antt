@@ -22,16 +22,16 @@ use Rattle.grammar.specs.Expression.{Joiner, plus-sign, and-sign, minus-sign, E
 use Rattle.grammar.specs.Names as Names
 use Rattle.grammar.specs.Names.{Kind, rule-set, Named, namesS, namesE, namesF, namesP, names, firstMissing, missing}
 use Rattle.grammar.specs.Lookup.{found, place}
-use Rattle.expressions.specs.Entries.{sortNumber}
+use Rattle.names.specs.Entries.{sortNumber}
 use Rattle.grammar.specs.Tree.{joined, scopeOf, treeOf, treeF, treeP}
-use Rattle.expressions.specs.Cells.{cellOf, cell, opNumber, signNumber, most-cells, most-count, countedTo, operatorsAfter, heightAfter, stored, placeOf, firstPlace, lacking, noted, emitName, emitS, emitE, emitF, emitP, Yields}
-use Rattle.expressions.proofs.Lookup.{stored-sort}
-use Rattle.expressions.proofs.Within.{filledE}
+use Rattle.words.specs.Cells.{cellOf, cell, opNumber, signNumber, most-cells, most-count, countedTo, operatorsAfter, heightAfter, stored, placeOf, firstPlace, lacking, noted, emitName, emitS, emitE, emitF, emitP, Yields}
+use Rattle.names.proofs.Lookup.{stored-sort}
+use Rattle.words.proofs.Within.{filledE}
 use Rattle.grammar.proofs.Names.{entry}
-use Rattle.expressions.specs.declared.Cell.{Cell}
-use Rattle.expressions.specs.declared.Place.{Place}
-use Rattle.expressions.specs.declared.Place.the-variants.{At, Nowhere}
-use Rattle.expressions.specs.declared.Program.{Program}
+use Rattle.words.specs.declared.Cell.{Cell}
+use Rattle.words.specs.declared.Place.{Place}
+use Rattle.words.specs.declared.Place.the-variants.{At, Nowhere}
+use Rattle.words.specs.declared.Program.{Program}
 
 -- ---- the cells
 -- p holds the first 193 of the steps xs

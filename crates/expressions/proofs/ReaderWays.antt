@@ -14,16 +14,16 @@ use Rattle.grammar.specs.Name.{isLetter, sortWord}
 use Rattle.grammar.specs.Expression.{Joiner, plus-sign, and-sign, minus-sign, Exp, Fac, plain, table-name, bracket, override, byteJ, textE, textF, textP}
 use Rattle.grammar.specs.Machine.{Left, start, after, join, Frame, open-bracket, open-first, open-second, open-third, at-table, State, need, naming, have, closed, parted, delimited, joined, onward, last, named, named-end, finish, grows, step, run}
 use Rattle.grammar.specs.Names.{Kind, table}
-use Rattle.expressions.specs.Entries.{sortNumber}
-use Rattle.expressions.specs.Cells.{cell, signNumber, stored, emitName, emitE, emitF}
-use Rattle.expressions.specs.Contract.{sortCode, signCode, suffixByte, Word, Starts, SuffixesAt, Stuck, PrimaryAt, FactorAt, ReadsMore, MoreAt, ReadsExpression, ExpressionAt, Awaits, StuckPart, PartAt, OverrideAt}
-use Rattle.expressions.specs.declared.Parsed.{Parsed}
-use Rattle.expressions.specs.declared.Parsed.the-variants.{Good, Bad}
-use Rattle.expressions.specs.declared.Program.{Program}
+use Rattle.names.specs.Entries.{sortNumber}
+use Rattle.words.specs.Cells.{cell, signNumber, stored, emitName, emitE, emitF}
+use Rattle.words.specs.Contract.{sortCode, signCode, suffixByte, Word, Starts, SuffixesAt, Stuck, PrimaryAt, FactorAt, ReadsMore, MoreAt, ReadsExpression, ExpressionAt, Awaits, StuckPart, PartAt, OverrideAt}
+use Rattle.words.specs.declared.Parsed.{Parsed}
+use Rattle.words.specs.declared.Parsed.the-variants.{Good, Bad}
+use Rattle.words.specs.declared.Program.{Program}
 use Rattle.grammar.proofs.Name.{word-of-sort}
 use Rattle.grammar.proofs.Machine.{is-in, run-go, run-none, run-byte, next-byte, settle-table, one-less, opens, full}
 use Rattle.grammar.proofs.Complete.{joiner-step}
-use Rattle.expressions.proofs.Words.{code-none, code-some, begins-word, the-word}
+use Rattle.words.proofs.Words.{code-none, code-some, begins-word, the-word}
 
 -- ---- signs and delimiters
 both-false : (x y : Bool) → (x || y) ≡ false → (x ≡ false) × (y ≡ false)

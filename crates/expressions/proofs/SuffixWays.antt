@@ -11,16 +11,16 @@ use borrow.Author.Tests.{eqb-true, ne-eqb}
 use Rattle.grammar.specs.Expression.{Fac, scoped, closed-by, textS, textF}
 use Rattle.grammar.specs.Machine.{Left, Frame, at-ruleset, at-scope, begin, have, caret, onward, named, named-end, finish, grows, step, run}
 use Rattle.grammar.specs.Names.{Kind}
-use Rattle.expressions.specs.Entries.{kindOf}
-use Rattle.expressions.specs.Cells.{cell, emitName, emitS, emitF}
-use Rattle.expressions.specs.Contract.{suffixByte, Starts, Strict, Name, ReadsScope, ScopeAt, ReadsSuffixes, SuffixAt, SuffixesAt}
-use Rattle.expressions.specs.declared.Parsed.{Parsed}
-use Rattle.expressions.specs.declared.Parsed.the-variants.{Good, Bad}
-use Rattle.expressions.specs.declared.NameKind.the-variants.{RuleSet}
-use Rattle.expressions.specs.declared.ScopeText.{ScopeText}
-use Rattle.expressions.specs.declared.ScopeRead.{ScopeRead}
-use Rattle.expressions.specs.declared.ScopeRead.the-variants.{Scoped, NoScope}
-use Rattle.expressions.specs.declared.Program.{Program}
+use Rattle.names.specs.Entries.{kindOf}
+use Rattle.words.specs.Cells.{cell, emitName, emitS, emitF}
+use Rattle.words.specs.Contract.{suffixByte, Starts, Strict, Name, ReadsScope, ScopeAt, ReadsSuffixes, SuffixAt, SuffixesAt}
+use Rattle.words.specs.declared.Parsed.{Parsed}
+use Rattle.words.specs.declared.Parsed.the-variants.{Good, Bad}
+use Rattle.names.specs.declared.NameKind.the-variants.{RuleSet}
+use Rattle.words.specs.declared.ScopeText.{ScopeText}
+use Rattle.words.specs.declared.ScopeRead.{ScopeRead}
+use Rattle.words.specs.declared.ScopeRead.the-variants.{Scoped, NoScope}
+use Rattle.words.specs.declared.Program.{Program}
 use Rattle.grammar.proofs.Machine.{in-text, is-in, run-none, run-byte, next-byte, settle-ruleset}
 
 strict-ruleset : (l : Left) (f : Fac) → Strict (at-ruleset l f)

@@ -10,11 +10,11 @@ use lib.ListN.{length, drop, length-drop}
 use Rattle.grammar.specs.Expression.{Exp, most-open}
 use Rattle.grammar.specs.Machine.{start, join, State, need, have, closed, parted, delimited, stuck, whole, last, finish, step, run, Reading, read, wrong, told, reading}
 use Rattle.grammar.specs.Names.{Kind}
-use Rattle.expressions.specs.Cells.{Yields}
-use Rattle.expressions.specs.Contract.{ReadsExpression, ExpressionAt, Told, Answer}
-use Rattle.expressions.specs.declared.Parsed.{Parsed}
-use Rattle.expressions.specs.declared.Parsed.the-variants.{Good, Bad}
-use Rattle.expressions.specs.declared.Program.{Program}
+use Rattle.words.specs.Cells.{Yields}
+use Rattle.words.specs.Contract.{ReadsExpression, ExpressionAt, Told, Answer}
+use Rattle.words.specs.declared.Parsed.{Parsed}
+use Rattle.words.specs.declared.Parsed.the-variants.{Good, Bad}
+use Rattle.words.specs.declared.Program.{Program}
 use Rattle.grammar.proofs.Machine.{reading-is, run-end, run-stop}
 use Rattle.expressions.proofs.ReaderWays.{cond-same, delims}
 use Rattle.expressions.proofs.Emits.{Empty, yields}

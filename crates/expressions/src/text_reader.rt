@@ -1,14 +1,14 @@
 // The reader over the expression keeps the text and its place together. The borrow checker covers no function over such a struct, so each is proved by
 // hand. They are few, and leave the work to `expression`, which takes the text and the place.
-use crate::Made;
-use crate::NameCounts;
-use crate::Program;
 use crate::expression;
+use names::NameCounts;
+use words::Made;
+use words::Program;
 ghost use mathlib.Core.Path.{_≡_};
 ghost use Prim.Native.Nat.{_≤_};
 ghost use lib.ListN.{length};
-ghost use Rattle.expressions.specs.Contract.{ExpressionAt};
-ghost use Rattle.expressions.specs.Entries.{Sound, lookupIn};
+ghost use Rattle.words.specs.Contract.{ExpressionAt};
+ghost use Rattle.names.specs.Entries.{Sound, lookupIn};
 
 // The expression's text, and the place reached in it.
 pub struct Reader<'a> {

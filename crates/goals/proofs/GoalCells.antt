@@ -6,10 +6,10 @@ use native.Mathlib.Omega.{arith}
 use lib.ListN.{getD}
 use Rattle.algebra.specs.Stored.{storedSort}
 use Rattle.grammar.specs.Names.{Kind, table, member, predicate}
-use Rattle.expressions.specs.Cells.{cell, NumberOf, CellWithin}
-use Rattle.expressions.specs.declared.Cell.{Cell}
-use Rattle.expressions.specs.declared.NameCounts.{NameCounts}
-use Rattle.expressions.specs.declared.Program.{Program}
+use Rattle.words.specs.Cells.{cell, NumberOf, CellWithin}
+use Rattle.words.specs.declared.Cell.{Cell}
+use Rattle.names.specs.declared.NameCounts.{NameCounts}
+use Rattle.words.specs.declared.Program.{Program}
 use Rattle.reader.specs.Declarations.{Declared}
 use Rattle.reader.specs.Line.{expressionLine}
 use Rattle.reader.specs.Expression.{lookup}

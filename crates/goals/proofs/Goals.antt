@@ -15,16 +15,16 @@ use Rattle.algebra.proofs.Program.{length-steps}
 use Rattle.grammar.specs.Expression.{Exp}
 use Rattle.grammar.specs.Machine.{Reading, read, wrong, reading}
 use Rattle.grammar.specs.Names.{Kind}
-use Rattle.expressions.specs.Entries.{lookupIn}
+use Rattle.names.specs.Entries.{lookupIn}
 use Rattle.grammar.specs.Tree.{treeOf}
-use Rattle.expressions.specs.Cells.{placeOf, Yields}
-use Rattle.expressions.specs.Contract.{Told, Answer}
-use Rattle.expressions.specs.declared.NameCounts.{NameCounts}
-use Rattle.expressions.specs.declared.Parsed.{Parsed}
-use Rattle.expressions.specs.declared.Parsed.the-variants.{Good, Bad}
-use Rattle.expressions.specs.declared.Place.the-variants.{At, Nowhere}
-use Rattle.expressions.specs.declared.Program.{Program}
-use Rattle.expressions.specs.declared.Made.{Made}
+use Rattle.words.specs.Cells.{placeOf, Yields}
+use Rattle.words.specs.Contract.{Told, Answer}
+use Rattle.names.specs.declared.NameCounts.{NameCounts}
+use Rattle.words.specs.declared.Parsed.{Parsed}
+use Rattle.words.specs.declared.Parsed.the-variants.{Good, Bad}
+use Rattle.words.specs.declared.Place.the-variants.{At, Nowhere}
+use Rattle.words.specs.declared.Program.{Program}
+use Rattle.words.specs.declared.Made.{Made}
 use Rattle.reader.specs.Line.{expressionLine}
 use Rattle.reader.specs.Declarations.{Declared, groupOf}
 use Rattle.reader.specs.Expression.{lookup, isDeclared}

@@ -9,11 +9,11 @@ use Rattle.algebra.specs.Stored.{storedSort}
 use Rattle.grammar.specs.Expression.{Exp}
 use Rattle.grammar.specs.Machine.{read, reading}
 use Rattle.grammar.specs.Tree.{treeOf}
-use Rattle.expressions.specs.Entries.{memberCount}
-use Rattle.expressions.specs.Cells.{cell, cellOf, CellWithin}
-use Rattle.expressions.specs.declared.Cell.{Cell}
-use Rattle.expressions.specs.declared.NameCounts.{NameCounts}
-use Rattle.expressions.specs.declared.Program.{Program}
+use Rattle.names.specs.Entries.{memberCount}
+use Rattle.words.specs.Cells.{cell, cellOf, CellWithin}
+use Rattle.words.specs.declared.Cell.{Cell}
+use Rattle.names.specs.declared.NameCounts.{NameCounts}
+use Rattle.words.specs.declared.Program.{Program}
 use Rattle.reader.specs.Line.{expressionLine}
 use Rattle.reader.specs.Declarations.{Declared}
 use Rattle.reader.specs.Expression.{lookup}

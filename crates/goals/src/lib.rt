@@ -1,17 +1,17 @@
 // E lines: the rows that they may meet, and the program of the expression.
-use expressions::Cell;
-use expressions::NameCounts;
-use expressions::Parsed;
-use expressions::Place;
-use expressions::Program;
 use expressions::read;
 use lines::text::Part;
+use names::NameCounts;
 use state::bad_counts;
 use state::late;
+use words::Cell;
+use words::Parsed;
+use words::Place;
+use words::Program;
 ghost use mathlib.Core.Path.{_≡_};
 ghost use Prim.Native.Nat.{_≤_};
 ghost use lib.ListN.{length};
-ghost use Rattle.expressions.specs.Entries.{Sound};
+ghost use Rattle.names.specs.Entries.{Sound};
 ghost use Rattle.reader.specs.Declarations.{Declared};
 ghost use Rattle.lines.specs.Parsed.{Within, textOf};
 ghost use Rattle.state.specs.Standing.{NamesStand};

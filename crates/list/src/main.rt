@@ -3,6 +3,7 @@ mod input;
 mod members;
 mod output;
 
+use composing::Composed;
 use input::read_all;
 use members::line_at;
 use members::name;
@@ -12,7 +13,6 @@ use output::flush;
 use output::number;
 use output::word;
 use snowdell::Checked;
-use snowdell::Composed;
 use snowdell::check;
 use snowdell::compose;
 ghost use Prim.Native.Nat.{_≤_};

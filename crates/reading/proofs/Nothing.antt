@@ -10,8 +10,8 @@ use lib.ListN.{length, getD, replicate, length-replicate, getD-replicate}
 use Rattle.algebra.specs.Sort.{Sort, subject, object, action}
 use Rattle.algebra.specs.Stored.{noAtom, noRule}
 use Rattle.algebra.specs.declared.StoredRule.{StoredRule}
-use Rattle.expressions.specs.Entries.{Group, Sound, entries, memberBase, memberCount}
-use Rattle.expressions.specs.declared.NameCounts.{NameCounts}
+use Rattle.names.specs.Entries.{Group, Sound, entries, memberBase, memberCount}
+use Rattle.names.specs.declared.NameCounts.{NameCounts}
 use Rattle.reader.specs.Declarations.{Predicate, start, membersOf}
 use Rattle.reader.specs.Rows.{placedLast, clash}
 use Rattle.state.specs.NameTables.{memberEntry, Names}

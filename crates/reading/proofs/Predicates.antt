@@ -8,7 +8,7 @@ use lib.ListN.{length}
 use lib.Seq.{slice}
 use Rattle.algebra.specs.Sort.{Sort}
 use Rattle.algebra.specs.Stored.{storedSort}
-use Rattle.expressions.specs.Entries.{memberCount}
+use Rattle.names.specs.Entries.{memberCount}
 use Rattle.reader.specs.Line.{Line, predicateLine}
 use Rattle.reader.specs.Declarations.{Declared, count, membersOf, memberAt, predicateAt, groupOf}
 use Rattle.reader.specs.Rows.{good, refuse, first, rows}

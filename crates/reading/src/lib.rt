@@ -1,10 +1,6 @@
 // Reads a policy file: its lines one after the other, each refused by the first row that it meets or added to the state.
 use algebra::StoredAtom;
 use algebra::StoredRule;
-use expressions::Cell;
-use expressions::NameCounts;
-use expressions::Place;
-use expressions::Program;
 use goals::Goal;
 use goals::judge_expression;
 use lines::line::Parsed;
@@ -12,6 +8,7 @@ use lines::line::parse_line;
 use lines::text::Part;
 use lines::text::is_file;
 use lines::text::piece_end;
+use names::NameCounts;
 use rule_lines::grant_body_line;
 use rule_lines::has_body_line;
 use rule_lines::order_body_line;
@@ -26,6 +23,9 @@ use state::judge_predicate;
 use state::placed;
 use state::root_line;
 use state::table_line;
+use words::Cell;
+use words::Place;
+use words::Program;
 ghost use mathlib.Core.Path.{_≡_};
 ghost use mathlib.Core.List.{List};
 ghost use Prim.Native.Nat.{ℕ, _+_, _*_, _≤_, _<_};

@@ -17,8 +17,8 @@ use Rattle.algebra.specs.StoredFrame.{parentOf, parentsOf}
 use Rattle.algebra.proofs.Lists.{length-tabFrom, getD-map-lt, getD-tabFrom, of-upto}
 use Rattle.sets.specs.Grants as Sets
 use Rattle.composer.specs.Compose.{TableIs, Listed}
-use Rattle.expressions.specs.Entries.{Entry, entryAt, entries, memberBase, memberCount}
-use Rattle.expressions.specs.declared.NameCounts.{NameCounts}
+use Rattle.names.specs.Entries.{Entry, entryAt, entries, memberBase, memberCount}
+use Rattle.names.specs.declared.NameCounts.{NameCounts}
 use Rattle.reader.specs.Declarations.{Member, Table, Declared, membersOf, noTable}
 use Rattle.reader.specs.File as File
 use Rattle.reader.specs.File.{frameOf, tablesOf}

@@ -2,7 +2,7 @@
 use algebra::Counts;
 use composer::run;
 use composer::tables;
-use expressions::NameCounts;
+use names::NameCounts;
 use reading::Reading;
 use reading::read_policy;
 ghost use mathlib.Core.Path.{_≡_};

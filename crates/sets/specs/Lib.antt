@@ -1,5 +1,4 @@
--- The definitions that the contracts cite: bytes in lent memory, the sets of answers and the grants in it, and scopes as the code holds them.
+-- The definitions that the contracts cite: bytes in lent memory, the sets of answers and the grants in it.
 pub mod Bytes
 pub mod Sets
 pub mod Grants
-pub mod Scopes

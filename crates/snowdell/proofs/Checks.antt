@@ -4,7 +4,7 @@ use mathlib.Core.List.{List}
 use Prim.Native.Nat.{ℕ}
 use Rattle.algebra.specs.Sort.{Sort, subject, object, action}
 use Rattle.algebra.specs.Policy.{members}
-use Rattle.expressions.specs.Entries.{memberCount}
+use Rattle.names.specs.Entries.{memberCount}
 use Rattle.reader.specs.Declarations.{count}
 use Rattle.reader.specs.File.{refused, readFile, policyOf, frameOf}
 use Rattle.reader.proofs.Members.{file-sane}

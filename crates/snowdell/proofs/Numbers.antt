@@ -6,10 +6,12 @@ use lib.ListN.{length}
 use borrow.Author.Tests.{le-leb, lt-leb}
 use Rattle.engine.specs.Calls as Calls
 use Rattle.snowdell.specs.Handed.{handed, whereRoom, checkNumbers, composeNumbers, decideNumbers}
-use Rattle.snowdell.specs.Returned.{checkedOf, composedOf, decidedOf}
+use Rattle.snowdell.specs.Returned.{checkedOf}
+use Rattle.composing.specs.Composition.{composedOf}
+use Rattle.deciding.specs.Decision.{decidedOf}
 use Rattle.snowdell.specs.declared.Checked.{Checked}
-use Rattle.snowdell.specs.declared.Composed.{Composed}
-use Rattle.snowdell.specs.declared.Decided.{Decided}
+use Rattle.composing.specs.declared.Composed.{Composed}
+use Rattle.deciding.specs.declared.Decided.{Decided}
 
 pub check-hands : (r : Checked) (c : Calls.Checked) (a b d e : ℕ) (l l′ : List ℕ) → a ≡ r .number → b ≡ r .subjects → d ≡ r .objects → e ≡ r .actions → checkedOf r ≡ c
     → l′ ≡ handed (a ∷ r .line ∷ r .place ∷ b ∷ d ∷ e ∷ []) l → l′ ≡ handed (checkNumbers c) l

@@ -8,10 +8,11 @@ use Rattle.engine.specs.Calls as Calls
 use Rattle.engine.specs.Calls.{compose, decide}
 use Rattle.engine.specs.Demands.{Says, composed, decided, Writes, Returns}
 use Rattle.engine.proofs.Demands.{demands}
-use Rattle.snowdell.specs.Returned.{composedOf, decidedOf}
+use Rattle.composing.specs.Composition.{composedOf}
+use Rattle.deciding.specs.Decision.{decidedOf}
 use Rattle.snowdell.specs.Promised.{Promised, composeSays, decideSays}
-use Rattle.snowdell.specs.declared.Composed.{Composed}
-use Rattle.snowdell.specs.declared.Decided.{Decided}
+use Rattle.composing.specs.declared.Composed.{Composed}
+use Rattle.deciding.specs.declared.Decided.{Decided}
 
 abbrev brings : (ℕ → ℕ → Bool) → ℕ → ℕ → Type 0
 brings later n y = later n y ≡ true

@@ -8,8 +8,8 @@ use lib.ListN.{getD}
 use Rattle.reader.specs.File.{readFile}
 use Rattle.reader.specs.Later.{LaterFile}
 use Rattle.engine.specs.Demands.{inSet, AllHere, Names, Says}
-use Rattle.snowdell.specs.declared.Composed.{Composed}
-use Rattle.snowdell.specs.declared.Decided.{Decided}
+use Rattle.composing.specs.declared.Composed.{Composed}
+use Rattle.deciding.specs.declared.Decided.{Decided}
 
 -- the access x belongs to demand 2's set of the file, where the away table n later brings the accesses y with `later n y`
 abbrev pub Belongs : List ℕ → (ℕ → ℕ → Bool) → ℕ → Type 0

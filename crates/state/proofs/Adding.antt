@@ -11,8 +11,8 @@ use native.Mathlib.Numerals.{add-one}
 use lib.ListN.{length, getD, set, length-set, length-append, List·getD-append}
 use lib.Seq.{slice, getD-append-seam}
 use Rattle.algebra.specs.Sort.{Sort, subject, object, action}
-use Rattle.expressions.specs.Entries.{Entry, entries, Group, Sound, memberBase, memberCount, predicateBase, tableBase, setBase}
-use Rattle.expressions.specs.declared.NameCounts.{NameCounts}
+use Rattle.names.specs.Entries.{Entry, entries, Group, Sound, memberBase, memberCount, predicateBase, tableBase, setBase}
+use Rattle.names.specs.declared.NameCounts.{NameCounts}
 use Rattle.reader.specs.Line.{Line, memberLine, tableLine}
 use Rattle.reader.specs.Declarations.{Member, Members, Table, Declared, membersOf, count, withMember, sortGroup, parentOf, noTable}
 use Rattle.reader.proofs.Members.{sort-low}

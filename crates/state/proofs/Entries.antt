@@ -11,8 +11,8 @@ use lib.Seq.{slice, getD-set-same, getD-set-other}
 use Rattle.algebra.specs.Lists.{tabFrom}
 use Rattle.algebra.specs.Sort.{Sort, subject, object, action}
 use Rattle.algebra.proofs.Lists.{tabFrom-cong}
-use Rattle.expressions.specs.Entries.{Entry, entryAt, entries, Group, Sound, memberBase, memberCount, predicateBase, tableBase, setBase}
-use Rattle.expressions.specs.declared.NameCounts.{NameCounts}
+use Rattle.names.specs.Entries.{Entry, entryAt, entries, Group, Sound, memberBase, memberCount, predicateBase, tableBase, setBase}
+use Rattle.names.specs.declared.NameCounts.{NameCounts}
 
 tab-snoc : {A : Type 0} (i n : ℕ) (g : ℕ → A) → tabFrom i (suc n) g ≡ tabFrom i n g ++ (g (i + n) ∷ [])
 tab-snoc i zero g = ap (λ (x : ℕ). g x ∷ []) (omega arith)

@@ -13,8 +13,8 @@ use Rattle.algebra.specs.Sort.{Sort, subject, object, action}
 use Rattle.algebra.proofs.Lists.{length-tabFrom}
 use Rattle.grammar.specs.Names.{Kind, table, rule-set, member, predicate}
 use Rattle.grammar.specs.Lookup.{position}
-use Rattle.expressions.specs.Entries.{Entry, entryAt, entries, isEntry, lookupIn, memberBase, memberCount, predicateBase, tableBase, setBase, sortNumber}
-use Rattle.expressions.specs.declared.NameCounts.{NameCounts}
+use Rattle.names.specs.Entries.{Entry, entryAt, entries, isEntry, lookupIn, memberBase, memberCount, predicateBase, tableBase, setBase, sortNumber}
+use Rattle.names.specs.declared.NameCounts.{NameCounts}
 use Rattle.reader.proofs.Lookup.{position-lt}
 use Rattle.state.specs.Judged.{badCountsOf}
 

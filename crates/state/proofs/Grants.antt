@@ -12,8 +12,8 @@ use Rattle.algebra.specs.Stored.{storedSort}
 use Rattle.algebra.proofs.Number.{number-lt}
 use Rattle.grammar.specs.Names.{Kind, table, member}
 use Rattle.grammar.specs.Lookup.{found, place}
-use Rattle.expressions.specs.Entries.{lookupIn, memberCount, tableBase}
-use Rattle.expressions.specs.declared.NameCounts.{NameCounts}
+use Rattle.names.specs.Entries.{lookupIn, memberCount, tableBase}
+use Rattle.names.specs.declared.NameCounts.{NameCounts}
 use Rattle.reader.specs.Line.{Line, grantLine}
 use Rattle.reader.specs.Declarations.{Declared, Table, noTable, tableAt, memberAt, membersOf, count, accessOf, groupOf}
 use Rattle.reader.specs.Expression.{lookup}

@@ -16,8 +16,8 @@ use Rattle.grammar.specs.Names as Kinds
 use lib.Dec.{ltb}
 use borrow.Author.Tests.{ltb-false}
 use Rattle.grammar.specs.Lookup.{found}
-use Rattle.expressions.specs.Entries.{Entry, entryAt, entries, memberBase, memberCount, tableBase, lookupIn}
-use Rattle.expressions.specs.declared.NameCounts.{NameCounts}
+use Rattle.names.specs.Entries.{Entry, entryAt, entries, memberBase, memberCount, tableBase, lookupIn}
+use Rattle.names.specs.declared.NameCounts.{NameCounts}
 use Rattle.reader.specs.Line.{Line, memberLine, tableLine}
 use Rattle.reader.specs.Declarations.{Table, Declared, noTable, memberAt, count, groupOf, parentOf}
 use Rattle.reader.specs.Rows.{good, refuse, first, rows, most, isMember, isParent, notDeclared, outOfOrder, badCounts}
@@ -31,7 +31,7 @@ use Rattle.state.specs.Standing.{flag, Few, NamesStand, Sizes, Stands, p
 use Rattle.state.specs.Judged.{lateOf, badCountsOf, MemberJudged, member-refused, member-passes, TableJudged, table-refused, table-passes, LineJudged, line-refused, line-good}
 use Rattle.state.specs.declared.State.{State}
 use Rattle.state.specs.declared.Next.{Next}
-use Rattle.expressions.proofs.Lookup.{sort-zero, sort-one, sort-other}
+use Rattle.names.proofs.Lookup.{sort-zero, sort-one, sort-other}
 use Rattle.state.proofs.Names.{sort-group}
 use Rattle.state.proofs.Verdicts.{counts-are as counts-are-of}
 use Rattle.state.proofs.Found.{few-accesses}

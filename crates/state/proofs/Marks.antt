@@ -15,8 +15,8 @@ use borrow.Author.Tests.{eq-eqb, ne-eqb}
 use Rattle.algebra.specs.Sort.{Sort, subject, object, action}
 use Rattle.algebra.specs.Lists.{any}
 use Rattle.grammar.specs.Lookup.{place}
-use Rattle.expressions.specs.Entries.{Entry, entries, Group, Sound, memberBase, memberCount, predicateBase, tableBase, setBase}
-use Rattle.expressions.specs.declared.NameCounts.{NameCounts}
+use Rattle.names.specs.Entries.{Entry, entries, Group, Sound, memberBase, memberCount, predicateBase, tableBase, setBase}
+use Rattle.names.specs.declared.NameCounts.{NameCounts}
 use Rattle.reader.specs.Line.{Line, predicateLine}
 use Rattle.reader.specs.Declarations.{Predicate, Declared, membersOf, memberAt, predicateAt, listing, withListed}
 use Rattle.reader.specs.File.{add}

@@ -13,8 +13,8 @@ use Rattle.algebra.specs.Policy.{Rule}
 use Rattle.algebra.specs.Stored.{storedSort}
 use Rattle.grammar.specs.Names.{Kind, table, member, predicate}
 use Rattle.grammar.specs.Lookup.{found}
-use Rattle.expressions.specs.Entries.{lookupIn, memberCount}
-use Rattle.expressions.specs.declared.NameCounts.{NameCounts}
+use Rattle.names.specs.Entries.{lookupIn, memberCount}
+use Rattle.names.specs.declared.NameCounts.{NameCounts}
 use Rattle.reader.specs.Line.{Line, memberLine, predicateLine, tableLine}
 use Rattle.reader.specs.Declarations.{Declared, sortGroup, tableAt, memberAt, predicateAt, count, groupOf}
 use Rattle.reader.specs.Expression.{lookup}
@@ -25,7 +25,7 @@ use Rattle.state.specs.Judged.{lateOf, badCountsOf, MemberJudged, member
 use Rattle.state.specs.declared.Marking.the-variants.{Unmarked, Known, Fresh}
 use Rattle.state.proofs.Verdicts.{meets-4, meets-8, meets-7, meets-5, meets-6, past-11}
 use Rattle.state.proofs.Grants.{early-4, in-order, counted}
-use Rattle.expressions.proofs.Lookup.{sort-zero, sort-one, sort-other}
+use Rattle.names.proofs.Lookup.{sort-zero, sort-one, sort-other}
 
 -- ---- a sort's number
 

@@ -9,8 +9,8 @@ use Rattle.algebra.specs.Sort.{Sort, subject, object, action}
 use Rattle.algebra.specs.Lists.{any, gather, only, upto}
 use Rattle.algebra.specs.Stored.{storedRule, noAtom, noRule}
 use Rattle.grammar.specs.Names.{Kind}
-use Rattle.expressions.specs.Entries.{Sound, memberCount, tableBase, lookupIn}
-use Rattle.expressions.specs.declared.NameCounts.{NameCounts}
+use Rattle.names.specs.Entries.{Sound, memberCount, tableBase, lookupIn}
+use Rattle.names.specs.declared.NameCounts.{NameCounts}
 use Rattle.reader.specs.Declarations.{Predicate, Table, Declared, count, noTable}
 use Rattle.state.specs.NameTables.{Names}
 use Rattle.reader.specs.Expression.{lookup}

@@ -4,7 +4,7 @@ use Prim.Native.Nat.{_*_, _-_, _≤_, _<_}
 use native.Mathlib.Omega.{arith}
 use lib.ListN.{length, length-map}
 use Rattle.algebra.specs.Policy.{Policy}
-use Rattle.closure.specs.Stored.{Ready}
+use Rattle.plans.specs.Stored.{Ready}
 use Rattle.composer.specs.Compose.{Composes}
 use Rattle.composer.proofs.Whole.{Left, is-held, left-next, stackAt, At, at-start, can-step, at-next, at-end}
 use Rattle.composer.proofs.run.Statement.{statement}

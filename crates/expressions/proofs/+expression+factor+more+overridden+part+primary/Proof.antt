@@ -1,14 +1,14 @@
-use Rattle.expressions.specs.Contract.{signCode}
-use Rattle.expressions.proofs.Words.{seen, n-bounds}
+use Rattle.words.specs.Contract.{signCode}
+use Rattle.words.proofs.Words.{seen, n-bounds}
 use Rattle.expressions.proofs.ReaderWays.{g-bad, g-good, g-open, g-in, h-first, h-second, h-third, h-good, p-full, p-bad, p-good, p-none, p-table, p-word, p-lone, p-full-2, p-override, f-bad, f-in, f-join, m-first, m-end, m-in, m-bad, m-past, m-next, e-bad, e-in, e-join}
-use Rattle.expressions.proofs.Scopes.{byte-is, byte-isnt}
+use Rattle.words.proofs.Scopes.{byte-is, byte-isnt}
 use Rattle.grammar.proofs.Machine.{is-in}
 use borrow.Author.Needs.{needs}
 use native.Mathlib.Omega.{arith}
 use lib.Dec.{lit<}
 use lib.ListN.{length}
-use Rattle.expressions.specs.Entries.{lookupIn}
-use Rattle.expressions.specs.Contract.{ReadsMore}
+use Rattle.names.specs.Entries.{lookupIn}
+use Rattle.words.specs.Contract.{ReadsMore}
 use Prim.Native.Nat.{ℕ, _<_, _+_, _-_, _*_}
 use borrow.Fn.Kinds.{In}
 use borrow.Fn.PlainCycle.{Measures, is, falls, and}
@@ -30,13 +30,13 @@ use Rattle.expressions.proofs.+expression+factor+more+overridden+part+p
 use Rattle.expressions.proofs.primary.Reads as primary
 use Rattle.expressions.proofs.primary.Kinds as primary-kinds
 use Rattle.expressions.proofs.+expression+factor+more+overridden+part+primary.Lts-primary as primary-lts
-use Rattle.expressions.proofs.peek.Reads as peek-reads
-use Rattle.expressions.proofs.put.Reads as put-reads
-use Rattle.expressions.proofs.put_name.Reads as put-name-reads
-use Rattle.expressions.proofs.sign.Reads as sign-reads
+use Rattle.words.proofs.peek.Reads as peek-reads
+use Rattle.words.proofs.put.Reads as put-reads
+use Rattle.words.proofs.put_name.Reads as put-name-reads
+use Rattle.words.proofs.sign.Reads as sign-reads
 use Rattle.expressions.proofs.suffixes.Reads as suffixes-reads
-use Rattle.expressions.proofs.word.Reads as word-reads
-use Rattle.expressions.proofs.word_sort.Reads as word-sort-reads
+use Rattle.words.proofs.word.Reads as word-reads
+use Rattle.words.proofs.word_sort.Reads as word-sort-reads
 use Rattle.expressions.proofs.+expression+factor+more+overridden+part+primary.{statement}
 use Rattle.expressions.proofs.+expression+factor+more+overridden+part+primary.Tie.{close}
 

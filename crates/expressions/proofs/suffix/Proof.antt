@@ -1,6 +1,6 @@
 use Prim.Native.Nat.{_+_}
 use Rattle.expressions.proofs.SuffixWays.{x-in, x-no-name, x-name, x-square, x-in-2, x-scope}
-use Rattle.expressions.proofs.Scopes.{byte-is, byte-isnt}
+use Rattle.words.proofs.Scopes.{byte-is, byte-isnt}
 use native.Mathlib.Omega.{arith}
 use borrow.Author.Needs.{needs}
 use Rattle.expressions.proofs.suffix.Statement.{statement}

@@ -1,9 +1,9 @@
 use mathlib.Core.Path.{sym, _∙_}
 use Rattle.expressions.proofs.SuffixWays.{xs-first, xs-end, xs-bad, xs-in, xs-past, xs-next}
-use Rattle.expressions.proofs.Programs.{name-settled, name-more, name-full}
-use Rattle.expressions.proofs.Words.{seen}
-use Rattle.expressions.specs.Contract.{suffixByte, ReadsSuffixes}
-use Rattle.expressions.specs.Entries.{lookupIn}
+use Rattle.words.proofs.Programs.{name-settled, name-more, name-full}
+use Rattle.words.proofs.Words.{seen}
+use Rattle.words.specs.Contract.{suffixByte, ReadsSuffixes}
+use Rattle.names.specs.Entries.{lookupIn}
 use lib.ListN.{length}
 use Prim.Native.Nat.{_-_}
 use borrow.Author.Needs.{needs}

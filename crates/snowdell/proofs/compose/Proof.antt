@@ -1,6 +1,6 @@
 use mathlib.Core.Path.{ap, _∙_}
-use Rattle.snowdell.specs.Returned.{composedOf}
-use Rattle.snowdell.proofs.Composing.{short-result, short-memory}
+use Rattle.composing.specs.Composition.{composedOf}
+use Rattle.composing.proofs.Composing.{short-result, short-memory}
 use Rattle.snowdell.proofs.Promises.{compose-promises}
 use borrow.Author.Needs.{needs}
 use Rattle.snowdell.proofs.compose.Statement.{statement}
@@ -8,8 +8,8 @@ use Rattle.snowdell.proofs.compose.Tie as tie
 use Rattle.snowdell.proofs.compose.Reads as reads
 use Rattle.snowdell.proofs.compose.Lts as lts
 use Rattle.sets.proofs.clear.Reads as clear-reads
-use Rattle.snowdell.proofs.compose_within.Reads as compose-within-reads
-use Rattle.snowdell.proofs.not_composed.Reads as not-composed-reads
+use Rattle.composing.proofs.compose_within.Reads as compose-within-reads
+use Rattle.composing.proofs.not_composed.Reads as not-composed-reads
 
 not-composed-requires : tie.Need-not-composed-requires
 not-composed-requires c κs = search needs

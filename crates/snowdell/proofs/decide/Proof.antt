@@ -1,6 +1,6 @@
 use mathlib.Core.Path.{ap, _∙_}
-use Rattle.snowdell.specs.Returned.{decidedOf}
-use Rattle.snowdell.proofs.Deciding.{short-memory}
+use Rattle.deciding.specs.Decision.{decidedOf}
+use Rattle.deciding.proofs.Deciding.{short-memory}
 use Rattle.snowdell.proofs.Promises.{decide-promises}
 use borrow.Author.Needs.{needs}
 use Rattle.snowdell.proofs.decide.Statement.{statement}
@@ -8,8 +8,8 @@ use Rattle.snowdell.proofs.decide.Tie as tie
 use Rattle.snowdell.proofs.decide.Reads as reads
 use Rattle.snowdell.proofs.decide.Lts as lts
 use Rattle.sets.proofs.clear.Reads as clear-reads
-use Rattle.snowdell.proofs.decide_within.Reads as decide-within-reads
-use Rattle.snowdell.proofs.not_decided.Reads as not-decided-reads
+use Rattle.deciding.proofs.decide_within.Reads as decide-within-reads
+use Rattle.deciding.proofs.not_decided.Reads as not-decided-reads
 
 not-decided-requires : tie.Need-not-decided-requires
 not-decided-requires c κs = search needs

@@ -4,7 +4,7 @@ use Prim.Native.Nat.{suc}
 use native.Mathlib.Omega.{arith}
 use native.Mathlib.Numerals.{add-one}
 use Rattle.algebra.specs.Stored.{storedSort}
-use Rattle.expressions.specs.Entries.{foundOf}
+use Rattle.names.specs.Entries.{foundOf}
 use Rattle.grammar.specs.Names as Kinds
 use Rattle.state.specs.Judged.{line-refused}
 use Rattle.state.proofs.Found.{found-lt}
@@ -14,7 +14,7 @@ use Rattle.state.proofs.child_line.Statement.{statement}
 use Rattle.state.proofs.child_line.Tie as tie
 use Rattle.state.proofs.child_line.Reads as reads
 use Rattle.state.proofs.child_line.Lts as lts
-use Rattle.expressions.proofs.look.Reads as look-reads
+use Rattle.names.proofs.look.Reads as look-reads
 use Rattle.state.proofs.base.Reads as base-reads
 use Rattle.state.proofs.judge_member.Reads as judge-member-reads
 use Rattle.state.proofs.members.Reads as members-reads

@@ -7,7 +7,7 @@ use Rattle.state.proofs.judge_table.Statement.{statement}
 use Rattle.state.proofs.judge_table.Tie as tie
 use Rattle.state.proofs.judge_table.Reads as reads
 use Rattle.state.proofs.judge_table.Lts as lts
-use Rattle.expressions.proofs.look.Reads as look-reads
+use Rattle.names.proofs.look.Reads as look-reads
 use Rattle.rows.proofs.first_met.Reads as first-met-reads
 use Rattle.state.proofs.bad_counts.Reads as bad-counts-reads
 use Rattle.state.proofs.is_there.Reads as is-there-reads

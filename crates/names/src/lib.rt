@@ -1,0 +1,207 @@
+// Looking up a name in the entries that the code holds.
+ghost use mathlib.Core.Path.{_≡_};
+ghost use Prim.Native.Nat.{_≤_};
+ghost use lib.ListN.{length};
+ghost use lib.Seq.{slice};
+ghost use Rattle.algebra.specs.Stored.{storedSort};
+ghost use Rattle.grammar.specs.Lookup.{same, position};
+ghost use Rattle.names.specs.Entries.{sortNumber, entryAt, entries, isTagged, isEntry, Group, Sound, spanOf, lookupIn, foundOf, kindOf};
+
+// ---- looking up a name
+
+// The number of a name within its group.
+pub enum Found {
+    At(u8),
+    Nothing,
+}
+
+// What a name is asked for as, in the sort 0, 1 or 2.
+pub enum NameKind {
+    Table,
+    RuleSet,
+    Member(u8),
+    Predicate(u8),
+}
+
+// How many names each group has.
+pub struct NameCounts {
+    pub subjects: u8,
+    pub objects: u8,
+    pub actions: u8,
+    pub predicates: u8,
+    pub tables: u8,
+    pub sets: u8,
+}
+
+fn wide(x: u16) -> usize
+    ensures { λ r. ⌜ r ≡ x ⌝ }
+{
+    x as usize
+}
+
+// Whether the part of t from `from` up to `to` is the part of f from `start` up to `end`.
+fn is_same<'a>(t: &'a [u8], from: usize, to: usize, f: &'a [u8], start: usize, end: usize) -> bool
+    requires { ⌜ (from ≤ to) × (to ≤ length (now t)) × (start ≤ end) × (end ≤ length (now f)) ⌝ }
+    ensures { λ r. ⌜ r ≡ same (slice from to (now (t .entry))) (slice start end (now (f .entry))) ⌝ }
+{
+    if to - from != end - start {
+        return false;
+    }
+    let mut i = from;
+    let mut j = start;
+    while i < to {
+        if t[i] != f[j] {
+            return false;
+        }
+        i += 1;
+        j += 1;
+    }
+    true
+}
+
+// Whether an entry's tag is the one wanted; 3 asks for any.
+fn is_tagged(wanted: u8, tag: u8) -> bool
+    ensures { λ r. ⌜ r ≡ isTagged wanted tag ⌝ }
+{
+    if 3 <= wanted {
+        return true;
+    }
+    tag == wanted
+}
+
+// Whether entry k has the tag wanted, and the name that stands in t from `from` up to `to`.
+fn is_entry<'a>(
+    f: &'a [u8],
+    starts: &'a [u16],
+    ends: &'a [u16],
+    tags: &'a [u8],
+    k: usize,
+    wanted: u8,
+    t: &'a [u8],
+    from: usize,
+    to: usize,
+) -> bool
+    requires { ⌜ Group (now f) (now starts) (now ends) (now tags) k 1 × (from ≤ to) × (to ≤ length (now t)) ⌝ }
+    ensures { λ r. ⌜ r ≡ isEntry wanted (slice from to (now (t .entry))) (entryAt (now (f .entry)) (now (starts .entry)) (now (ends .entry)) (now (tags .entry)) k) ⌝ }
+{
+    if !is_tagged(wanted, tags[k]) {
+        return false;
+    }
+    is_same(t, from, to, f, wide(starts[k]), wide(ends[k]))
+}
+
+// The first entry of a group that has the tag wanted and the name that stands in t from `from` up to `to`.
+pub fn find<'a>(
+    f: &'a [u8],
+    starts: &'a [u16],
+    ends: &'a [u16],
+    tags: &'a [u8],
+    base: usize,
+    count: u8,
+    wanted: u8,
+    t: &'a [u8],
+    from: usize,
+    to: usize,
+) -> Found
+    requires { ⌜ Group (now f) (now starts) (now ends) (now tags) base count × (from ≤ to) × (to ≤ length (now t)) ⌝ }
+    ensures { λ r. ⌜ foundOf r ≡ position (isEntry wanted (slice from to (now (t .entry)))) (entries (now (f .entry)) (now (starts .entry)) (now (ends .entry)) (now (tags .entry)) base count) ⌝ }
+{
+    let mut i: u8 = 0;
+    let mut k = base;
+    while i < count {
+        if is_entry(f, starts, ends, tags, k, wanted, t, from, to) {
+            return Found::At(i);
+        }
+        i += 1;
+        k += 1;
+    }
+    Found::Nothing
+}
+
+// The tag of a predicate's sort.
+fn sort_tag(s: u8) -> u8
+    ensures { λ r. ⌜ r ≡ sortNumber (storedSort s) ⌝ }
+{
+    if s < 2 { s } else { 2 }
+}
+
+// A group of names: its first entry, how many it has, and the tag that is wanted; 3 for any.
+pub struct Span {
+    pub base: usize,
+    pub count: u8,
+    pub wanted: u8,
+}
+
+// The group in which a name is looked for.
+fn group_of(counts: NameCounts, kind: NameKind) -> Span
+    ensures { λ r. ⌜ r ≡ spanOf counts (kindOf kind) ⌝ }
+{
+    match kind {
+        NameKind::Table => Span {
+            base: 160,
+            count: counts.tables,
+            wanted: 3,
+        },
+        NameKind::RuleSet => Span {
+            base: 176,
+            count: counts.sets,
+            wanted: 3,
+        },
+        NameKind::Predicate(s) => Span {
+            base: 144,
+            count: counts.predicates,
+            wanted: sort_tag(s),
+        },
+        NameKind::Member(s) => {
+            if s == 0 {
+                return Span {
+                    base: 0,
+                    count: counts.subjects,
+                    wanted: 3,
+                };
+            }
+            if s == 1 {
+                return Span {
+                    base: 64,
+                    count: counts.objects,
+                    wanted: 3,
+                };
+            }
+            Span {
+                base: 128,
+                count: counts.actions,
+                wanted: 3,
+            }
+        }
+    }
+}
+
+// The number of the name that stands in t from `from` up to `to`, as what it is asked for.
+pub fn look<'a>(
+    f: &'a [u8],
+    starts: &'a [u16],
+    ends: &'a [u16],
+    tags: &'a [u8],
+    counts: NameCounts,
+    kind: NameKind,
+    t: &'a [u8],
+    from: usize,
+    to: usize,
+) -> Found
+    requires { ⌜ Sound (now f) (now starts) (now ends) (now tags) counts × (from ≤ to) × (to ≤ length (now t)) ⌝ }
+    ensures { λ r. ⌜ foundOf r ≡ lookupIn (now (f .entry)) (now (starts .entry)) (now (ends .entry)) (now (tags .entry)) counts (kindOf kind) (slice from to (now (t .entry))) ⌝ }
+{
+    let g = group_of(counts, kind);
+    find(
+        f,
+        starts,
+        ends,
+        tags,
+        g.base,
+        g.count,
+        g.wanted,
+        t,
+        from,
+        to,
+    )
+}

@@ -1,0 +1,2 @@
+-- The definitions that the contracts cite: scopes as the code holds them.
+pub mod Scopes
