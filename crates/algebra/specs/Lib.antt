@@ -6,6 +6,7 @@ pub mod Answer
 pub mod Rounds
 pub mod Derivation
 pub mod Algebra
+pub mod Ran
 pub mod Program
 pub mod Policy
 pub mod Stored

@@ -13,21 +13,20 @@ use Rattle.algebra.specs.Lists.{any, tab}
 use Rattle.algebra.specs.Answer.{Answer, deny, undecided, byte, answerOf, keep, sure}
 use Rattle.algebra.specs.Rounds.{Clause, iter, used}
 use Rattle.algebra.specs.Algebra.{permits, grade, decided, close}
-use Rattle.algebra.specs.Program.{Step, table-step, plus-step, both-step, minus-step, override-step, scope-step}
+use Rattle.algebra.specs.Ran.{Ran, valueAt, merge, replace, shut, valuesOf}
+use Rattle.algebra.specs.Program.{Step, table-step, plus-step, both-step, minus-step, override-step, scope-step, one}
 use Rattle.algebra.specs.Policy.{Frame, Table, Policy, Scope, accesses, inScope, clauses, model, tableAt, tableAnswer}
 use Rattle.algebra.specs.declared.Counts.{Counts}
 use Rattle.algebra.specs.declared.StoredRule.{StoredRule}
 use Rattle.algebra.proofs.Lists.{length-tab, getD-tab, getD-map-lt}
 use Rattle.algebra.proofs.Rounds.{length-iter}
 use Rattle.algebra.proofs.Algebra.{length-permits}
-use Rattle.algebra.proofs.Run.{Ran, valueAt, merge, replace, shut}
-use Rattle.algebra.proofs.Program.{one}
 use Rattle.sets.specs.Bytes.{put}
 use Rattle.sets.specs.Sets.{answerAt, setAt, putSet, Answers, operation, replaced, Stack, set-on}
 use Rattle.sets.specs.Grants.{grantsOf}
 use Rattle.sets.proofs.Bytes.{put-high, part-put}
 use Rattle.sets.proofs.Sets.{answerOf-byte, putSet-high}
-use Rattle.sets.proofs.Stack.{valuesOf, stack-answers, length-shut, step-table, step-plus, step-both, step-minus, step-override, step-scope, step-closure, here-answers, away-answers}
+use Rattle.sets.proofs.Stack.{stack-answers, length-shut, step-table, step-plus, step-both, step-minus, step-override, step-scope, step-closure, here-answers, away-answers}
 use Rattle.closure.specs.Closed.{answersOf, ClosedTo}
 use Rattle.words.specs.Cells.{cellOf}
 use Rattle.words.specs.declared.Cell.{Cell}

@@ -10,15 +10,16 @@ use lib.Seq.{ext-getD, drop-cons, take-suc, take-all, getD-take, getD-drop, leng
 use Rattle.algebra.specs.Lists.{gather, only, upto}
 use Rattle.algebra.specs.Answer.{Answer, byte}
 use Rattle.algebra.specs.Algebra.{Tree, Model, held}
-use Rattle.algebra.specs.Program.{Step, steps, after, peak, operands, Ready}
+use Rattle.algebra.specs.Ran.{Ran, valuesOf}
+use Rattle.algebra.specs.Program.{Step, steps, after, peak, operands, Ready, one}
 use Rattle.algebra.specs.Policy.{Policy, Scope, accesses, model, tableAnswer, bytes}
 use Rattle.algebra.specs.declared.Counts.{Counts}
 use Rattle.algebra.specs.declared.StoredRule.{StoredRule}
-use Rattle.algebra.proofs.Run.{Ran, run, composed, composed-answers, composed-rounds}
-use Rattle.algebra.proofs.Program.{one, exec, length-one, exec-append, exec-steps, peak-steps, ready-steps}
+use Rattle.algebra.proofs.Run.{run, composed, composed-answers, composed-rounds}
+use Rattle.algebra.proofs.Program.{exec, length-one, exec-append, exec-steps, peak-steps, ready-steps}
 use Rattle.sets.specs.Sets.{Stack, no-set}
 use Rattle.sets.specs.Grants.{grantAt, grantsOf}
-use Rattle.sets.proofs.Stack.{valuesOf, stack-last}
+use Rattle.sets.proofs.Stack.{stack-last}
 use Rattle.words.specs.Cells.{cell, cellOf}
 use Rattle.words.specs.declared.Cell.{Cell}
 use Rattle.words.specs.declared.Program.{Program}

@@ -7,15 +7,13 @@ use Rattle.algebra.specs.Lists.{tab}
 use Rattle.algebra.specs.Answer.{byte}
 use Rattle.algebra.specs.Rounds.{used}
 use Rattle.algebra.specs.Algebra.{permits, close}
-use Rattle.algebra.specs.Program.{after, operands}
+use Rattle.algebra.specs.Ran.{Ran, valuesOf}
+use Rattle.algebra.specs.Program.{after, operands, one}
 use Rattle.algebra.specs.Policy.{Frame, Policy, accesses, clauses, model, tableAnswer}
 use Rattle.algebra.specs.declared.Counts.{Counts}
 use Rattle.algebra.specs.declared.StoredRule.{StoredRule}
-use Rattle.algebra.proofs.Run.{Ran}
-use Rattle.algebra.proofs.Program.{one}
 use Rattle.sets.specs.Bytes.{put}
 use Rattle.sets.specs.Sets.{setAt, Stack}
-use Rattle.sets.proofs.Stack.{valuesOf}
 use Rattle.plans.specs.Stored.{Stored}
 use Rattle.closure.specs.Closed.{answersOf}
 use Rattle.words.specs.Cells.{cellOf}

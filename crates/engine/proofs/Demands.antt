@@ -14,11 +14,13 @@ use Rattle.algebra.proofs.Bytes.{length-bytes, bytes-at}
 use Rattle.algebra.proofs.Demands.{policy-sound, policy-complete, policy-stable}
 use Rattle.reader.specs.Declarations.{memberAt, membersOf}
 use Rattle.reader.specs.File.{Accepted, Outcome, refused, accepted, readFile}
+use Rattle.reader.proofs.Rows.{refused-number}
 use Rattle.reader.proofs.Lookup.{position-lt}
 use Rattle.reader.proofs.Members.{file-sane}
 use Rattle.reader.proofs.Later.{later-accepted}
-use Rattle.engine.specs.Calls.{Composed, Decided, unchanged, composition, compose, undecidedBy, answered}
-use Rattle.engine.specs.Demands.{KnownState, inSet, AllHere, Names, Says, composed, decided, Sound, Complete, Stable, Agree, ParentsEarlier, Demands}
+use Rattle.engine.specs.Calls.{Composed, Decided, checked, check, unchanged, composition, compose, undecidedBy, answered}
+use Rattle.engine.specs.Demands.{KnownState, Numbered, inSet, AllHere, Names, Says, composed, decided, Sound, Complete, Stable, Agree, ParentsEarlier, Demands}
+use Rattle.engine.proofs.Places.{places}
 use Rattle.engine.proofs.Calls.{length-cleared, cleared-zero, cleared-beyond, length-written, written-at, written-beyond, Composes, too-short, not-read, answers, composes, Decides, decides}
 
 -- ---- demand 1
@@ -69,6 +71,12 @@ module _ (f r m : List ℕ) where
   memory-long _ (Composes.not-read k l p g z y) = length-cleared m y
   memory-long _ (Composes.answers a e z y) = length-cleared m y
 
+  compose-number : (c : Composed) → Composes f r m c → c .number ≤ 14
+  unfolding unchanged composition
+  compose-number _ Composes.too-short = omega arith
+  compose-number _ (Composes.not-read k l p g z y) = g .1
+  compose-number _ (Composes.answers a e z y) = omega arith
+
 module _ (f s o a m : List ℕ) where
   zero-after : (c : Decided) → Decides f s o a m c → ¬ (c .number ≡ 1) → (x : ℕ) → x < 65536 → getD (c .memory) x 0 ≡ 0
   unfolding undecidedBy answered
@@ -94,6 +102,12 @@ module _ (f s o a m : List ℕ) where
   long-after _ (Decides.not-read k l p g y) = length-cleared m y
   long-after _ (Decides.answers b e i j k u v w y) = length-cleared m y
 
+  decide-number : (c : Decided) → Decides f s o a m c → c .number ≤ 15
+  unfolding undecidedBy answered
+  decide-number _ Decides.too-short = omega arith
+  decide-number _ (Decides.not-read k l p g y) = g .1
+  decide-number _ (Decides.answers b e i j k u v w y) = omega arith
+
 known-state : (f s o a r m : List ℕ) → KnownState f s o a r m
 known-state f s o a r m =
     let c = composes f r m in
@@ -111,6 +125,21 @@ known-state f s o a r m =
       decide-short = short-after f s o a m _ d;
       decide-length = long-after f s o a m _ d;
     }
+
+check-number : (f : List ℕ) → check f .number ≤ 14
+unfolding check checked
+check-number f = go (readFile f) refl
+  where
+    go : (o : Outcome) → readFile f ≡ o → checked o .number ≤ 14
+    go (refused k l p) e = refused-number f k l p e .1
+    go (accepted a) e = omega arith
+
+numbered : (f s o a r m : List ℕ) → Numbered f s o a r m
+numbered f s o a r m = record {
+  check-number = check-number f;
+  compose-number = compose-number f r m _ (composes f r m);
+  decide-number = decide-number f s o a m _ (decides f s o a m);
+}
 
 -- ---- what a call says is the policy's answer
 
@@ -264,4 +293,4 @@ parents-earlier f = go (readFile f) refl
     go (accepted a) e = let w = file-sane f a e .is-ordered in (w subject, w object, w action)
 
 pub demands : Demands
-demands = record { known-state = known-state; sound = sound; complete = complete; stable = stable; agree = agree; parents-earlier = parents-earlier }
+demands = record { known-state = known-state; numbered = numbered; sound = sound; complete = complete; stable = stable; agree = agree; parents-earlier = parents-earlier; places = places }

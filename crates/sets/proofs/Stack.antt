@@ -12,14 +12,13 @@ use Rattle.algebra.specs.Lists.{any, tab}
 use Rattle.algebra.specs.Answer.{Answer, deny, undecided, permit, byte, answerOf, keep, sure, _⊔_, _⊓_, _⊖_}
 use Rattle.algebra.specs.Rounds.{Clause, iter, used}
 use Rattle.algebra.specs.Algebra.{Model, permits}
-use Rattle.algebra.specs.Program.{table-step, plus-step, both-step, minus-step, override-step, scope-step, closure-step}
+use Rattle.algebra.specs.Ran.{Ran, valueAt, merge, replace, shut, valuesOf}
+use Rattle.algebra.specs.Program.{table-step, plus-step, both-step, minus-step, override-step, scope-step, closure-step, one}
 use Rattle.algebra.specs.Policy.{Table, tableAt, isGranted, tableAnswer}
 use Rattle.algebra.proofs.Lists.{length-tab, getD-tab}
 use Rattle.algebra.proofs.Tables.{answer-here, answer-away}
-use Rattle.algebra.proofs.Run.{Ran, valueAt, merge, replace, shut}
 use Rattle.algebra.proofs.Rounds.{length-iter}
 use Rattle.algebra.proofs.Algebra.{length-permits}
-use Rattle.algebra.proofs.Program.{one}
 use Rattle.sets.specs.Bytes.{put}
 use Rattle.sets.specs.Sets.{byteAt, answerAt, setAt, putSet, Answers, operation, replaced, Stack, no-set, set-on}
 use Rattle.sets.specs.Grants.{grantsOf}
@@ -118,9 +117,6 @@ length-shut n G lim a =
     length-map (iter n G (used n G lim F) F) _ ∙ length-iter n G (used n G lim F) F (length-permits n (valueAt (a .values)))
 
 -- ---- the steps of the postfix program: w′ is the memory after the function's call
-
-abbrev pub valuesOf : List Ran → List (List Answer)
-valuesOf st = map (λ (r : Ran). r .values) st
 
 module _ {C : Type 0} (M : Model C) (lim : ℕ) (T : ℕ → ℕ → Answer) (w w′ : List ℕ) (k : ℕ) (most : M .size ≤ 4096) (fits : k * 4096 + M .size ≤ length w) where
   -- a table's set
