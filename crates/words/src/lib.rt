@@ -4,6 +4,7 @@ use names::NameCounts;
 use names::NameKind;
 use names::look;
 ghost use mathlib.Core.Path.{_≡_};
+ghost use mathlib.Core.Bool.{_&&_};
 ghost use Prim.Native.Nat.{_≤_, _<_, _-_, max};
 ghost use lib.Dec.{leb};
 ghost use lib.ListN.{length, getD};
