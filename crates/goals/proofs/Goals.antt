@@ -32,7 +32,8 @@ use Rattle.reader.specs.Rows.{row, if, good, refuse, first, rows, outOfOrder, w
 use Rattle.reader.specs.File.{goalOf, add}
 use Rattle.state.specs.Standing.{NamesStand, Stands}
 use Rattle.state.specs.Judged.{lateOf, badCountsOf}
-use Rattle.goals.specs.Goals.{verdictAt, GoalGood, GoalJudged, endedOf}
+use Rattle.rows.specs.First.{verdictAt}
+use Rattle.goals.specs.Goals.{GoalGood, GoalJudged, endedOf}
 use Rattle.state.specs.declared.State.{State}
 use Rattle.goals.specs.declared.Goal.{Goal}
 use Rattle.state.proofs.Verdicts.{first-met, first-passed, if-true, if-false, meets-8, meets-7, past-11}

@@ -17,14 +17,10 @@ use Rattle.words.specs.declared.Program.{Program}
 use Rattle.reader.specs.Line.{expressionLine}
 use Rattle.reader.specs.Declarations.{Declared}
 use Rattle.reader.specs.Expression.{lookup}
-use Rattle.reader.specs.Rows.{Verdict, good, refuse, first, rows}
+use Rattle.reader.specs.Rows.{first, rows}
+use Rattle.rows.specs.First.{verdictAt}
 use Rattle.state.specs.declared.State.{State}
 use Rattle.goals.specs.declared.Goal.{Goal}
-
--- the verdict of an answer's number and place, 0 where the line is good
-abbrev pub verdictAt : ℕ → ℕ → Verdict
-verdictAt zero p = good
-verdictAt (suc n) p = refuse (suc n) p
 
 -- the program is that of the tree of the expression that was read
 pub record GoalGood (d : Declared) (limit : ℕ) (t : List ℕ) (p : Program) : Type 0 where

@@ -1,1 +1,2 @@
--- Nothing but the proofs of the functions.
+-- Laws that belong to no one function.
+pub mod First

@@ -1,6 +1,14 @@
--- The number of the first of the rows 4, 8, 7 and 5 that is met, or 0.
-use mathlib.Core.Bool.{Bool, cond}
-use Prim.Native.Nat.{ℕ}
+-- The order of the rows 4, 8, 7 and 5 of the table of refusals.
+use mathlib.Core.Bool.{Bool}
+use mathlib.Core.List.{[], _∷_}
+use Prim.Native.Nat.{ℕ, zero, suc}
+use Rattle.reader.specs.Rows.{Verdict, good, refuse, row, if, first}
 
-abbrev pub firstMet : Bool → Bool → Bool → Bool → ℕ
-firstMet late counts many there = cond late 4 (cond counts 8 (cond many 7 (cond there 5 0)))
+-- a verdict as the code has it: the row's number and the place, or 0
+abbrev pub verdictAt : ℕ → ℕ → Verdict
+verdictAt zero p = good
+verdictAt (suc n) p = refuse (suc n) p
+
+-- the first of the four that is met
+abbrev pub firstMet : Bool → Bool → Bool → Bool → Verdict
+firstMet late counts many there = first (row 4 (if late) ∷ row 8 (if counts) ∷ row 7 (if many) ∷ row 5 (if there) ∷ [])

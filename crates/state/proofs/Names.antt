@@ -18,7 +18,8 @@ use Rattle.reader.specs.Line.{Line, memberLine, predicateLine, tableLine}
 use Rattle.reader.specs.Declarations.{Declared, sortGroup, tableAt, memberAt, predicateAt, count, groupOf}
 use Rattle.reader.specs.Expression.{lookup}
 use Rattle.reader.specs.Rows.{first, outOfOrder, withoutRule, badCounts, most, tooMany, declaredAlready, isMember, notDeclared, grantsAway, twoSorts, expressionRows}
-use Rattle.rows.specs.First.{firstMet}
+use Rattle.rows.specs.First.{verdictAt, firstMet}
+use Rattle.rows.proofs.First.{refused-is, good-is}
 use Rattle.state.specs.Standing.{NamesStand}
 use Rattle.state.specs.Judged.{lateOf, badCountsOf, MemberJudged, member-refused, member-passes, TableJudged, table-refused, table-passes, PredicateJudged}
 use Rattle.state.specs.declared.Marking.the-variants.{Unmarked, Known, Fresh}
@@ -170,13 +171,17 @@ module _ (f starts ends tags : List ℕ) (c : NameCounts) (d : Declared) (ns : N
 
     -- by the first row that is met
     pub table-first : (late counts many there : Bool) → late ≡ lateOf group 4 → counts ≡ badCountsOf group 4 (c .subjects) (c .objects) (c .actions) → many ≡ leb 16 (c .tables)
-        → there ≡ found (lookupIn f starts ends tags c table t) → TableJudged d t h (firstMet late counts many there)
-    unfolding found
-    table-first true counts many there e4 e8 e7 e5 = table-4 (sym e4)
-    table-first false true many there e4 e8 e7 e5 = table-8 (sym e4) (sym e8)
-    table-first false false true there e4 e8 e7 e5 = table-7 (sym e4) (sym e8) (leb-true 16 (c .tables) (sym e7))
-    table-first false false false there e4 e8 e7 e5 = go (lookupIn f starts ends tags c table t) refl there e5
+        → there ≡ found (lookupIn f starts ends tags c table t) → (k : ℕ) → verdictAt k 0 ≡ firstMet late counts many there → TableJudged d t h k
+    unfolding found first row if
+    table-first true counts many there e4 e8 e7 e5 k v = subst (TableJudged d t h) (sym (refused-is k 4 v)) (table-4 (sym e4))
+    table-first false true many there e4 e8 e7 e5 k v = subst (TableJudged d t h) (sym (refused-is k 8 v)) (table-8 (sym e4) (sym e8))
+    table-first false false true there e4 e8 e7 e5 k v = subst (TableJudged d t h) (sym (refused-is k 7 v)) (table-7 (sym e4) (sym e8) (leb-true 16 (c .tables) (sym e7)))
+    table-first false false false there e4 e8 e7 e5 k v = subst (TableJudged d t h) (sym (last there v)) (go (lookupIn f starts ends tags c table t) refl there e5)
       where
+        last : (b : Bool) → verdictAt k 0 ≡ first (row 5 (if b) ∷ []) → k ≡ cond b 5 0
+        last true q = refused-is k 5 q
+        last false q = good-is k q
+
         go : (x : Option ℕ) → lookupIn f starts ends tags c table t ≡ x → (b : Bool) → b ≡ found x → TableJudged d t h (cond b 5 0)
         go none e true q = absurd (let z : _≡_ {A = ℕ} 0 1 = cc in omega arith)
         go none e false q = table-good (sym e4) (sym e8) (leb-false 16 (c .tables) (sym e7)) e

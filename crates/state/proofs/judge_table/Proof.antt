@@ -29,7 +29,7 @@ first-met-requires : tie.Need-first-met-requires
 first-met-requires c κs = search needs
 
 returns : tie.Need-returns
-returns c = λ d h ns g. subst (TableJudged d _ h) (sym (c .first-met .ensures)) (table-first _ _ _ _ _ d ns _ g _ h _ _ _ _ (c .before .before .before .before .late .ensures) (c .before .before .before .bad-counts .ensures) refl (c .before .is-there .ensures ∙ ap found (c .before .before .before .before .before .look .ensures)))
+returns c = λ d h ns g. (table-first _ _ _ _ _ d ns _ g _ h _ _ _ _ (c .before .before .before .before .late .ensures) (c .before .before .before .bad-counts .ensures) refl (c .before .is-there .ensures ∙ ap found (c .before .before .before .before .before .look .ensures) _ (c .first-met .ensures))
 
 pub judge-table-spec : {M : Type 1} → statement M
 judge-table-spec =
