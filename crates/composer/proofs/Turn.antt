@@ -23,7 +23,7 @@ use Rattle.algebra.proofs.Rounds.{length-iter}
 use Rattle.algebra.proofs.Algebra.{length-permits}
 use Rattle.sets.specs.Bytes.{put}
 use Rattle.sets.specs.Sets.{answerAt, setAt, putSet, Answers, operation, replaced, Stack, set-on}
-use Rattle.sets.specs.Grants.{grantsOf}
+use Rattle.algebra.specs.Grants.{grantsOf}
 use Rattle.sets.proofs.Bytes.{put-high, part-put}
 use Rattle.sets.proofs.Sets.{answerOf-byte, putSet-high}
 use Rattle.sets.proofs.Stack.{stack-answers, length-shut, step-table, step-plus, step-both, step-minus, step-override, step-scope, step-closure, here-answers, away-answers}
@@ -37,7 +37,7 @@ use Rattle.composer.proofs.Cells.{cell-table, cell-plus, cell-both, cel
 -- ---- a table
 
 module _ (k n : ℕ) (table : ℕ) (here : List ℕ) (i grants : ℕ) (w w′ : List ℕ) (ts : List Table) (is : TableIs ts here grants w table) (at : i ≡ table) where
-  pub table-here : getD here i 0 ≡ 1 → w′ ≡ putSet k n (λ x. sure (any (eqb x) (grantsOf table grants w))) w → w′ ≡ putSet k n (tableAnswer ts table) w
+  pub table-here : getD here i 0 ≡ 1 → w′ ≡ putSet k n (λ x. sure (any (eqb x) (grantsOf 57344 table grants w))) w → w′ ≡ putSet k n (tableAnswer ts table) w
   table-here e q =
       let h : tableAt ts table .here ≡ true = is .flag ∙ eq-eqb (getD here table 0) 1 (ap (λ i. getD here i 0) (sym at) ∙ e) in
       here-answers k n table grants w w′ ts h (is .list h) q

@@ -18,7 +18,7 @@ use Rattle.algebra.specs.declared.StoredRule.{StoredRule}
 use Rattle.algebra.proofs.Run.{run, composed, composed-answers, composed-rounds}
 use Rattle.algebra.proofs.Program.{exec, length-one, exec-append, exec-steps, peak-steps, ready-steps}
 use Rattle.sets.specs.Sets.{Stack, no-set}
-use Rattle.sets.specs.Grants.{grantAt, grantsOf}
+use Rattle.algebra.specs.Grants.{grantAt, grantsOf}
 use Rattle.sets.proofs.Stack.{stack-last}
 use Rattle.words.specs.Cells.{cell, cellOf}
 use Rattle.words.specs.declared.Cell.{Cell}
@@ -37,10 +37,10 @@ unfoldable pub stackAt : Policy → ℕ → List Ran
 stackAt P j = exec (model (P .frame)) (P .limit) (tableAnswer (P .tables)) (take j (steps (P .tree))) []
 
 -- the grants are those of the bytes beyond the sets
-grants-same : (table count : ℕ) (w w₀ : List ℕ) → ((i : ℕ) → 57344 ≤ i → getD w i 0 ≡ getD w₀ i 0) → grantsOf table count w ≡ grantsOf table count w₀
+grants-same : (table count : ℕ) (w w₀ : List ℕ) → ((i : ℕ) → 57344 ≤ i → getD w i 0 ≡ getD w₀ i 0) → grantsOf 57344 table count w ≡ grantsOf 57344 table count w₀
 unfolding grantsOf
 grants-same table count w w₀ h =
-    let e : grantAt w ≡ grantAt w₀ = fun-ext (λ i. rw (h (57344 + 2 * i) (omega arith), h (57345 + 2 * i) (omega arith))) in
+    let e : grantAt 57344 w ≡ grantAt 57344 w₀ = fun-ext (λ i. rw (h (57344 + 2 * i) (omega arith), h (57344 + 2 * i + 1) (omega arith))) in
     ap (λ g. gather (λ i. only (eqb (g i / 4096) table) (g i % 4096 ∷ [])) (upto count)) e
 
 -- ---- the steps that are left

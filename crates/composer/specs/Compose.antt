@@ -13,7 +13,7 @@ use Rattle.algebra.specs.Stored.{storedSort}
 use Rattle.algebra.specs.StoredFrame.{sizeOf, total, parentsOf}
 use Rattle.algebra.specs.declared.Counts.{Counts}
 use Rattle.algebra.specs.declared.StoredRule.{StoredRule}
-use Rattle.sets.specs.Grants.{grantsOf}
+use Rattle.algebra.specs.Grants.{grantsOf}
 use Rattle.plans.specs.Stored.{Ready, Stored}
 use Rattle.words.specs.Cells.{cell, cellOf}
 use Rattle.words.specs.declared.Cell.{Cell}
@@ -22,7 +22,7 @@ use Rattle.words.specs.declared.Program.{Program}
 -- a table of the list: whether it is here, which is 1 among the flags, and then its grants
 pub record TableIs (ts : List Table) (here : List ℕ) (grants : ℕ) (w : List ℕ) (i : ℕ) : Type 0 where
   pub flag : tableAt ts i .here ≡ eqb (getD here i 0) 1
-  pub list : tableAt ts i .here ≡ true → tableAt ts i .grants ≡ grantsOf i grants w
+  pub list : tableAt ts i .here ≡ true → tableAt ts i .grants ≡ grantsOf 57344 i grants w
 
 -- a cell whose numbers are in their ranges
 pub record Fits (n : Counts) (c : Cell) : Type 0 where

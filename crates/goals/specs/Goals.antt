@@ -1,7 +1,7 @@
 -- What the code's answer on an E line means, in terms of the rows and of what is declared after it.
 use mathlib.Core.Path.{_≡_}
 use mathlib.Core.List.{List, map}
-use Prim.Native.Nat.{ℕ, zero, suc, _≤_, _<_}
+use Prim.Native.Nat.{ℕ, _≤_, _<_}
 use lib.ListN.{length, getD, take}
 use Rattle.algebra.specs.Algebra.{operators, held}
 use Rattle.algebra.specs.Program.{steps}

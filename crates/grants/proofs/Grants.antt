@@ -15,7 +15,7 @@ use Rattle.algebra.specs.Lists.{any, tabFrom, tab, gather, only, upto}
 use Rattle.algebra.specs.Answer.{Answer, deny, permit, byte, sure}
 use Rattle.sets.specs.Bytes.{put}
 use Rattle.sets.specs.Sets.{Room, byteAt, putSet}
-use Rattle.sets.specs.Grants.{grantAt, grantsOf}
+use Rattle.algebra.specs.Grants.{grantAt, grantsOf}
 use Rattle.sets.proofs.Sets.{length-putSet, putSet-low, putSet-at, putSet-high, putSet-cong, is-putSet, putSet-twice}
 use Rattle.algebra.proofs.Lists.{any-append, gather-append}
 
@@ -35,46 +35,46 @@ upto-more n = from 0 n ∙ ap (λ m. upto n ++ (m ∷ [])) (omega arith)
 -- ---- sets leave the grants alone
 
 module _ (k n : ℕ) (f : ℕ → Answer) (w : List ℕ) (room : Room k n w) where
-  pub grantAt-putSet : (i : ℕ) → grantAt (putSet k n f w) i ≡ grantAt w i
-  grantAt-putSet i = rw (putSet-high k n f w (omega arith) (57344 + 2 * i) (omega arith), putSet-high k n f w (omega arith) (57345 + 2 * i) (omega arith))
+  pub grantAt-putSet : (i : ℕ) → grantAt 57344 (putSet k n f w) i ≡ grantAt 57344 w i
+  grantAt-putSet i = rw (putSet-high k n f w (omega arith) (57344 + 2 * i) (omega arith), putSet-high k n f w (omega arith) (57344 + 2 * i + 1) (omega arith))
 
-  pub grantsOf-putSet : (table count : ℕ) → grantsOf table count (putSet k n f w) ≡ grantsOf table count w
+  pub grantsOf-putSet : (table count : ℕ) → grantsOf 57344 table count (putSet k n f w) ≡ grantsOf 57344 table count w
   unfolding grantsOf
   grantsOf-putSet table count = gather-cong _ _ (upto count) (λ i. ap (λ g. only (eqb (g / 4096) table) (g % 4096 ∷ [])) (grantAt-putSet i))
 
 -- ---- the answers that the first i grants give a table
 
 abbrev pub given : ℕ → ℕ → List ℕ → ℕ → Answer
-given table i w x = sure (any (eqb x) (grantsOf table i w))
+given table i w x = sure (any (eqb x) (grantsOf 57344 table i w))
 
 -- what the i-th adds
 module _ (table i : ℕ) (w : List ℕ) (x : ℕ) where
-  grants-more : any (eqb x) (grantsOf table (i + 1) w) ≡ (any (eqb x) (grantsOf table i w) || any (eqb x) (only (eqb (grantAt w i / 4096) table) (grantAt w i % 4096 ∷ [])))
+  grants-more : any (eqb x) (grantsOf 57344 table (i + 1) w) ≡ (any (eqb x) (grantsOf 57344 table i w) || any (eqb x) (only (eqb (grantAt 57344 w i / 4096) table) (grantAt 57344 w i % 4096 ∷ [])))
   unfolding grantsOf
   grants-more =
-      let f : ℕ → List ℕ = λ i. only (eqb (grantAt w i / 4096) table) (grantAt w i % 4096 ∷ []) in
+      let f : ℕ → List ℕ = λ i. only (eqb (grantAt 57344 w i / 4096) table) (grantAt 57344 w i % 4096 ∷ []) in
       let more : gather f (upto (i + 1)) ≡ gather f (upto i) ++ f i =
       ap (λ n. gather f (upto n)) (add-one i) ∙ ap (gather f) (upto-more i) ∙ gather-append f (upto i) (i ∷ []) ∙ ap (λ l. gather f (upto i) ++ l) (append-nil (f i)) in
       ap (any (eqb x)) more ∙ any-append (eqb x) (gather f (upto i)) (f i)
 
   -- another table's
-  grants-miss : (grantAt w i / 4096 ≡ table → ⊥) → given table (i + 1) w x ≡ given table i w x
-  grants-miss h = let e : any (eqb x) (grantsOf table (i + 1) w) ≡ any (eqb x) (grantsOf table i w) = rw (grants-more, ne-eqb (grantAt w i / 4096) table h) (or-false (any (eqb x) (grantsOf table i w))) in ap sure e
+  grants-miss : (grantAt 57344 w i / 4096 ≡ table → ⊥) → given table (i + 1) w x ≡ given table i w x
+  grants-miss h = let e : any (eqb x) (grantsOf 57344 table (i + 1) w) ≡ any (eqb x) (grantsOf 57344 table i w) = rw (grants-more, ne-eqb (grantAt 57344 w i / 4096) table h) (or-false (any (eqb x) (grantsOf 57344 table i w))) in ap sure e
 
   -- of another access
-  grants-other : grantAt w i / 4096 ≡ table → (x ≡ grantAt w i % 4096 → ⊥) → given table (i + 1) w x ≡ given table i w x
-  grants-other h h′ = let e : any (eqb x) (grantsOf table (i + 1) w) ≡ any (eqb x) (grantsOf table i w) = rw (grants-more, eq-eqb (grantAt w i / 4096) table h, ne-eqb x (grantAt w i % 4096) h′) (or-false (any (eqb x) (grantsOf table i w))) in ap sure e
+  grants-other : grantAt 57344 w i / 4096 ≡ table → (x ≡ grantAt 57344 w i % 4096 → ⊥) → given table (i + 1) w x ≡ given table i w x
+  grants-other h h′ = let e : any (eqb x) (grantsOf 57344 table (i + 1) w) ≡ any (eqb x) (grantsOf 57344 table i w) = rw (grants-more, eq-eqb (grantAt 57344 w i / 4096) table h, ne-eqb x (grantAt 57344 w i % 4096) h′) (or-false (any (eqb x) (grantsOf 57344 table i w))) in ap sure e
 
-  grants-hit : grantAt w i / 4096 ≡ table → x ≡ grantAt w i % 4096 → given table (i + 1) w x ≡ permit
-  grants-hit h h′ = let e : any (eqb x) (grantsOf table (i + 1) w) ≡ true = rw (grants-more, eq-eqb (grantAt w i / 4096) table h, eq-eqb x (grantAt w i % 4096) h′) (or-true (any (eqb x) (grantsOf table i w))) in ap sure e
+  grants-hit : grantAt 57344 w i / 4096 ≡ table → x ≡ grantAt 57344 w i % 4096 → given table (i + 1) w x ≡ permit
+  grants-hit h h′ = let e : any (eqb x) (grantsOf 57344 table (i + 1) w) ≡ true = rw (grants-more, eq-eqb (grantAt 57344 w i / 4096) table h, eq-eqb x (grantAt 57344 w i % 4096) h′) (or-true (any (eqb x) (grantsOf 57344 table i w))) in ap sure e
 
 -- ---- one turn: w₀ is the memory where the loop begins, w where the turn does, and g the grant
 
-module _ (table k n i : ℕ) (w₀ w : List ℕ) (room : Room k n w₀) (at : w ≡ putSet k n (given table i w₀) w₀) (g : ℕ) (read : g ≡ grantAt w i) where
-  grant-is : g ≡ grantAt w₀ i
-  grant-is = read ∙ ap (λ u. grantAt u i) at ∙ grantAt-putSet k n (given table i w₀) w₀ room i
+module _ (table k n i : ℕ) (w₀ w : List ℕ) (room : Room k n w₀) (at : w ≡ putSet k n (given table i w₀) w₀) (g : ℕ) (read : g ≡ grantAt 57344 w i) where
+  grant-is : g ≡ grantAt 57344 w₀ i
+  grant-is = read ∙ ap (λ u. grantAt 57344 u i) at ∙ grantAt-putSet k n (given table i w₀) w₀ room i
 
-  same-table : g / 4096 ≡ table → grantAt w₀ i / 4096 ≡ table
+  same-table : g / 4096 ≡ table → grantAt 57344 w₀ i / 4096 ≡ table
   same-table h = ap (λ g. g / 4096) (sym grant-is) ∙ h
 
   pub turn-miss : (g / 4096 ≡ table → ⊥) → w ≡ putSet k n (given table (i + 1) w₀) w₀
@@ -82,7 +82,7 @@ module _ (table k n i : ℕ) (w₀ w : List ℕ) (room : Room k n w₀) (at : w 
 
   pub turn-beyond : g / 4096 ≡ table → n ≤ g % 4096 → w ≡ putSet k n (given table (i + 1) w₀) w₀
   turn-beyond h l =
-      at ∙ putSet-cong k n _ _ w₀ (λ x b. sym (grants-other table i w₀ x (same-table h) (λ e. let q : g % 4096 ≡ grantAt w₀ i % 4096 = ap (λ g. g % 4096) grant-is in omega arith)))
+      at ∙ putSet-cong k n _ _ w₀ (λ x b. sym (grants-other table i w₀ x (same-table h) (λ e. let q : g % 4096 ≡ grantAt 57344 w₀ i % 4096 = ap (λ g. g % 4096) grant-is in omega arith)))
 
   pub turn-hit : g / 4096 ≡ table → g % 4096 < n → set w (k * 4096 + g % 4096) 2 ≡ putSet k n (given table (i + 1) w₀) w₀
   turn-hit h l =
@@ -93,7 +93,7 @@ module _ (table k n i : ℕ) (w₀ w : List ℕ) (room : Room k n w₀) (at : w 
       (λ y b. mid y b (ℕ-discrete y x))
       (λ j b. getD-set-other w (k * 4096 + x) j 2 0 (λ e. omega arith) ∙ ap (λ u. getD u j 0) at ∙ putSet-high k n _ w₀ (omega arith) j b)
     where
-      q : g % 4096 ≡ grantAt w₀ i % 4096
+      q : g % 4096 ≡ grantAt 57344 w₀ i % 4096
       q = ap (λ g. g % 4096) grant-is
 
       mid : (y : ℕ) → y < n → Dec (y ≡ g % 4096) → byteAt k (set w (k * 4096 + g % 4096) 2) y ≡ byte (given table (i + 1) w₀ y)

@@ -2,7 +2,7 @@
 use mathlib.Core.Path.{_≡_, refl}
 use Prim.Native.Nat.{ℕ, zero, suc}
 use native.Mathlib.Omega.{arith}
-use Rattle.reader.specs.Rows.{Verdict, good, refuse}
+use Rattle.reader.specs.Rows.{good, refuse}
 use Rattle.rows.specs.First.{verdictAt}
 
 pub refused-is : (k n : ℕ) → verdictAt k 0 ≡ refuse n 0 → k ≡ n

@@ -1,5 +1,5 @@
 -- The members' tags and the marks are those of the frame that is declared, and the tables and grants those of the policy.
-use mathlib.Core.Path.{_≡_, refl, sym, ap, _∙_}
+use mathlib.Core.Path.{_≡_, refl, sym, ap, _∙_, ap₂}
 use mathlib.Core.Bool.{Bool, true, false, cond}
 use mathlib.Core.List.{List, [], _∷_, map, List·Memᴰ, List·Memᴰ·head, List·Memᴰ·tail}
 use mathlib.Core.Option.{Option, none, some}
@@ -15,7 +15,6 @@ use Rattle.algebra.specs.Policy as Policies
 use Rattle.algebra.specs.Policy.{parents, members, isMarked, tableAt}
 use Rattle.algebra.specs.StoredFrame.{parentOf, parentsOf}
 use Rattle.algebra.proofs.Lists.{length-tabFrom, getD-map-lt, getD-tabFrom, of-upto}
-use Rattle.sets.specs.Grants as Sets
 use Rattle.composer.specs.Compose.{TableIs, Listed}
 use Rattle.names.specs.Entries.{Entry, entryAt, entries, memberBase, memberCount}
 use Rattle.names.specs.declared.NameCounts.{NameCounts}
@@ -23,7 +22,8 @@ use Rattle.reader.specs.Declarations.{Member, Table, Declared, membersOf, noTab
 use Rattle.reader.specs.File as File
 use Rattle.reader.specs.File.{frameOf, tablesOf}
 use Rattle.state.specs.NameTables.{parentTag, memberEntry, Names}
-use Rattle.state.specs.Standing.{flag, grantAt, grantsOf, listedAt}
+use Rattle.algebra.specs.Grants.{grantAt, grantsOf}
+use Rattle.state.specs.Standing.{flag, listedAt}
 use Rattle.running.specs.Runs.{grantsPart, countsOf, tagsOf}
 
 -- ---- parents
@@ -86,14 +86,14 @@ gather-same g h [] e = refl
 gather-same g h (x ∷ xs) e = rw (e x (List·Memᴰ·head refl), gather-same g h xs (λ y m. e y (List·Memᴰ·tail m)))
 
 -- a grant in the part that was lent is that in the whole memory
-grant-same : (w : List ℕ) (i : ℕ) → i < 4096 → grantAt (grantsPart w) i ≡ Sets.grantAt w i
-grant-same w i h = rw (byte (2 * i) (omega arith), byte (2 * i + 1) (omega arith)) (ap (λ (k : ℕ). getD w (57344 + 2 * i) 0 + 256 * getD w k 0) (omega arith))
+grant-same : (w : List ℕ) (i : ℕ) → i < 4096 → grantAt 0 (grantsPart w) i ≡ grantAt 57344 w i
+grant-same w i h = rw (byte (0 + 2 * i) (omega arith), byte (0 + 2 * i + 1) (omega arith)) (ap₂ (λ (j k : ℕ). getD w j 0 + 256 * getD w k 0) (omega arith) (omega arith))
   where
     byte : (k : ℕ) → k < 8192 → getD (grantsPart w) k 0 ≡ getD w (57344 + k) 0
     byte k l = getD-take 8192 (drop 57344 w) k 0 l ∙ getD-drop 57344 w k 0
 
-pub grants-same : (table many : ℕ) (w : List ℕ) → many ≤ 4096 → grantsOf table many (grantsPart w) ≡ Sets.grantsOf table many w
-unfolding grantsOf Sets.grantsOf
+pub grants-same : (table many : ℕ) (w : List ℕ) → many ≤ 4096 → grantsOf 0 table many (grantsPart w) ≡ grantsOf 57344 table many w
+unfolding grantsOf
 grants-same table many w few =
     gather-same _ _ (upto many) (λ i m. ap (λ (g : ℕ). only (eqb (g / 4096) table) (g % 4096 ∷ [])) (grant-same w i (omega (arith, of-upto many i m))))
 
@@ -102,7 +102,7 @@ as-test true = refl
 as-test false = refl
 
 module _ (ts : List Table) (here : List ℕ) (grants : ℕ) (w : List ℕ) (few : grants ≤ 4096) (i : ℕ) (less : i < length ts) where
-  pub table-is : getD here i 0 ≡ flag (getD ts i noTable .here) → grantsOf i grants (grantsPart w) ≡ getD ts i noTable .grants → TableIs (tablesOf ts) here grants w i
+  pub table-is : getD here i 0 ≡ flag (getD ts i noTable .here) → grantsOf 0 i grants (grantsPart w) ≡ getD ts i noTable .grants → TableIs (tablesOf ts) here grants w i
   unfolding tablesOf
   table-is h g =
       let same : tableAt (tablesOf ts) i ≡ record { here = getD ts i noTable .here; grants = getD ts i noTable .grants } = getD-map-lt _ ts i noTable _ less in

@@ -10,6 +10,7 @@ use native.Mathlib.Omega.{arith}
 use native.Mathlib.Numerals.{add-one}
 use lib.ListN.{length, getD, set, length-set, length-append, List·getD-append}
 use lib.Seq.{slice, getD-append-seam}
+use Rattle.algebra.specs.Grants.{grantsOf}
 use Rattle.algebra.specs.Sort.{Sort, subject, object, action}
 use Rattle.names.specs.Entries.{Entry, entries, Group, Sound, memberBase, memberCount, predicateBase, tableBase, setBase}
 use Rattle.names.specs.declared.NameCounts.{NameCounts}
@@ -19,7 +20,7 @@ use Rattle.reader.proofs.Members.{sort-low}
 use Rattle.reader.specs.Rows.{most}
 use Rattle.reader.specs.File.{add}
 use Rattle.state.specs.NameTables.{parentTag, memberEntry, tableEntry, Names}
-use Rattle.state.specs.Standing.{grantsOf, Few, Sizes, Stands, placedOf, moreMembers, moreTables}
+use Rattle.state.specs.Standing.{Few, Sizes, Stands, placedOf, moreMembers, moreTables}
 use Rattle.state.proofs.Within.{more-member, more-table}
 use Rattle.state.proofs.AllGrants.{granted-more}
 use Rattle.state.specs.declared.State.{State}
@@ -298,18 +299,18 @@ module _ (f w : List ℕ) (st : State) (d : Declared) (S : Stands f w st d) (fro
       members object = t-group 64 (tc .objects) (t-apart object) (S .sound .members object)
       members action = t-group 128 (tc .actions) (t-apart action) (S .sound .members action)
 
-  table-grants : (i : ℕ) → i < length (add d tl .tables) → grantsOf i (st .grants) w ≡ getD (add d tl .tables) i noTable .grants
+  table-grants : (i : ℕ) → i < length (add d tl .tables) → grantsOf 0 i (st .grants) w ≡ getD (add d tl .tables) i noTable .grants
   unfolding add grantsOf
   table-grants i b = go (decLt i (length (d .tables)))
     where
       t : Table
       t = record { name = slice from to f; here = h; grants = [] }
 
-      go : Dec (i < length (d .tables)) → grantsOf i (st .grants) w ≡ getD (d .tables ++ (t ∷ [])) i noTable .grants
+      go : Dec (i < length (d .tables)) → grantsOf 0 i (st .grants) w ≡ getD (d .tables ++ (t ∷ [])) i noTable .grants
       go (yes q) = S .grants i q ∙ ap (λ (x : Table). x .grants) (sym (List·getD-append (d .tables) (t ∷ []) noTable i q))
       go (no q) =
           let e : i ≡ length (d .tables) = omega (arith, length-append (d .tables) (t ∷ [])) in
-          ap (λ (k : ℕ). grantsOf i k w) (S .no-grants early)
+          ap (λ (k : ℕ). grantsOf 0 i k w) (S .no-grants early)
           ∙ ap (λ (x : Table). x .grants) (sym (getD-append-seam (d .tables) t [] noTable)) ∙ ap (λ (k : ℕ). getD (d .tables ++ (t ∷ [])) k noTable .grants) (sym e)
 
   pub table-added : Stands f w (placedOf st ti from to tag (moreTables tc) 4) (add d tl)

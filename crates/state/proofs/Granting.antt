@@ -9,13 +9,14 @@ use lib.Dec.{eqb}
 use lib.ListN.{length, getD, set, length-set}
 use lib.Seq.{getD-set-same, getD-set-other, map-set-same}
 use borrow.Author.Tests.{eq-eqb, ne-eqb}
+use Rattle.algebra.specs.Grants.{grantAt, grantsOf}
 use Rattle.algebra.specs.Lists.{gather, only, tabFrom, upto}
 use Rattle.grammar.specs.Lookup.{place}
 use Rattle.reader.specs.Line.{grantLine}
 use Rattle.reader.specs.Declarations.{Table, Declared, noTable, tableAt, accessOf, granting, withGrant}
 use Rattle.reader.specs.File.{add}
 use Rattle.state.specs.NameTables.{tableEntry}
-use Rattle.state.specs.Standing.{grantAt, grantsOf, Stands, grantedOf, grantWritten}
+use Rattle.state.specs.Standing.{Stands, grantedOf, grantWritten}
 use Rattle.state.proofs.AllGrants.{granted-with}
 use Rattle.state.specs.declared.State.{State}
 
@@ -33,27 +34,30 @@ upto-snoc : (i n : ℕ) → tabFrom i (suc n) (λ j. j) ≡ tabFrom i n (λ j. j
 upto-snoc i zero = ap (λ (x : ℕ). x ∷ []) (omega arith)
 upto-snoc i (suc n) = ap (λ r. i ∷ r) (upto-snoc (suc i) n ∙ ap (λ (x : ℕ). tabFrom (suc i) n (λ j. j) ++ (x ∷ [])) (omega arith))
 
+from-zero : (w : List ℕ) (i : ℕ) → grantAt 0 w i ≡ getD w (2 * i) 0 + 256 * getD w (2 * i + 1) 0
+from-zero w i = let e : 0 + 2 * i ≡ 2 * i = omega arith in ap (λ (k : ℕ). getD w k 0 + 256 * getD w (k + 1) 0) e
+
 module _ (w : List ℕ) (n g : ℕ) (fits : 2 * n + 1 < length w) where
-  at-new : grantAt (grantWritten w n g) n ≡ g
+  at-new : grantAt 0 (grantWritten w n g) n ≡ g
   unfolding grantWritten
   at-new =
-      rw (
+      from-zero (grantWritten w n g) n ∙ rw (
         getD-set-other (set w (2 * n) (g % 256)) (2 * n + 1) (2 * n) (g / 256) 0 (λ e. omega arith),
         getD-set-same w (2 * n) (g % 256) 0 (omega arith),
         getD-set-same (set w (2 * n) (g % 256)) (2 * n + 1) (g / 256) 0 (omega (arith, length-set w (2 * n) (g % 256))),
       ) (omega arith)
 
-  at-old : (j : ℕ) → j < n → grantAt (grantWritten w n g) j ≡ grantAt w j
+  at-old : (j : ℕ) → j < n → grantAt 0 (grantWritten w n g) j ≡ grantAt 0 w j
   unfolding grantWritten
   at-old j h =
-      rw (
+      from-zero (grantWritten w n g) j ∙ rw (
         getD-set-other (set w (2 * n) (g % 256)) (2 * n + 1) (2 * j) (g / 256) 0 (λ e. omega arith),
         getD-set-other w (2 * n) (2 * j) (g % 256) 0 (λ e. omega arith),
         getD-set-other (set w (2 * n) (g % 256)) (2 * n + 1) (2 * j + 1) (g / 256) 0 (λ e. omega arith),
         getD-set-other w (2 * n) (2 * j + 1) (g % 256) 0 (λ e. omega arith),
-      )
+      ) (sym (from-zero w j))
 
-  pub grants-more : (t : ℕ) → grantsOf t (n + 1) (grantWritten w n g) ≡ grantsOf t n w ++ only (eqb (g / 4096) t) ((g % 4096) ∷ [])
+  pub grants-more : (t : ℕ) → grantsOf 0 t (n + 1) (grantWritten w n g) ≡ grantsOf 0 t n w ++ only (eqb (g / 4096) t) ((g % 4096) ∷ [])
   unfolding grantsOf
   grants-more t =
       ap (λ (k : ℕ). gather pick′ (upto k)) (add-one n) ∙ ap (gather pick′) (upto-snoc 0 n) ∙ gather-snoc pick′ (upto n) (0 + n)
@@ -62,10 +66,10 @@ module _ (w : List ℕ) (n g : ℕ) (fits : 2 * n + 1 < length w) where
       (ap pick′ (omega arith) ∙ ap (λ (x : ℕ). only (eqb (x / 4096) t) ((x % 4096) ∷ [])) at-new)
     where
       pick : ℕ → List ℕ
-      pick i = only (eqb (grantAt w i / 4096) t) ((grantAt w i % 4096) ∷ [])
+      pick i = only (eqb (grantAt 0 w i / 4096) t) ((grantAt 0 w i % 4096) ∷ [])
 
       pick′ : ℕ → List ℕ
-      pick′ i = only (eqb (grantAt (grantWritten w n g) i / 4096) t) ((grantAt (grantWritten w n g) i % 4096) ∷ [])
+      pick′ i = only (eqb (grantAt 0 (grantWritten w n g) i / 4096) t) ((grantAt 0 (grantWritten w n g) i % 4096) ∷ [])
 
 -- ---- the table that has one grant more
 
@@ -106,13 +110,13 @@ module _ (f w : List ℕ) (st : State) (d : Declared) (S : Stands f w st d) (t s
   access-of : g % 4096 ≡ x
   access-of = omega arith
 
-  now-granted : (i : ℕ) → i < length (withGrant (d .tables) k x) → grantsOf i (st .grants + 1) (grantWritten w (st .grants) g) ≡ getD (withGrant (d .tables) k x) i noTable .grants
+  now-granted : (i : ℕ) → i < length (withGrant (d .tables) k x) → grantsOf 0 i (st .grants + 1) (grantWritten w (st .grants) g) ≡ getD (withGrant (d .tables) k x) i noTable .grants
   now-granted i h = grants-more w (st .grants) g fits i ∙ go (ℕ-discrete k i)
     where
       h′ : i < length (d .tables)
       h′ = rw (with-length (d .tables) k x) at h
 
-      go : Dec (k ≡ i) → grantsOf i (st .grants) w ++ only (eqb (g / 4096) i) ((g % 4096) ∷ []) ≡ getD (withGrant (d .tables) k x) i noTable .grants
+      go : Dec (k ≡ i) → grantsOf 0 i (st .grants) w ++ only (eqb (g / 4096) i) ((g % 4096) ∷ []) ≡ getD (withGrant (d .tables) k x) i noTable .grants
       go (yes e) =
           ap₂ (λ (a : List ℕ) (b : List ℕ). a ++ b) (S .grants i h′) (rw (table-of, access-of, eq-eqb k i e))
           ∙ subst (λ (j : ℕ). getD (d .tables) j noTable .grants ++ (x ∷ []) ≡ getD (withGrant (d .tables) k x) j noTable .grants) e (sym (with-same (d .tables) k x in-tables))

@@ -5,8 +5,9 @@ use mathlib.Core.List.{List, [], _∷_, map}
 use Prim.Native.Nat.{ℕ, _+_, _*_, _/_, _%_, _≤_, _<_}
 use lib.Dec.{eqb}
 use lib.ListN.{length, getD, set, take}
+use Rattle.algebra.specs.Grants.{grantsOf}
 use Rattle.algebra.specs.Sort.{Sort, subject, object, action}
-use Rattle.algebra.specs.Lists.{any, gather, only, upto}
+use Rattle.algebra.specs.Lists.{any}
 use Rattle.algebra.specs.Stored.{storedRule, noAtom, noRule}
 use Rattle.grammar.specs.Names.{Kind}
 use Rattle.names.specs.Entries.{Sound, memberCount, tableBase, lookupIn}
@@ -23,15 +24,6 @@ use Rattle.state.specs.declared.State.{State}
 abbrev pub flag : Bool → ℕ
 flag true = 1
 flag false = 0
-
--- ---- grants, two bytes each, the low one first, of 4096 × table + access
-
-abbrev pub grantAt : List ℕ → ℕ → ℕ
-grantAt w i = getD w (2 * i) 0 + 256 * getD w (2 * i + 1) 0
-
--- the accesses that a table grants, in order, of the first `many` grants
-unfoldable pub grantsOf : ℕ → ℕ → List ℕ → List ℕ
-grantsOf table many w = gather (λ i. only (eqb (grantAt w i / 4096) table) (grantAt w i % 4096 ∷ [])) (upto many)
 
 -- ---- the counts are within their rooms
 pub record Few (c : NameCounts) : Type 0 where
@@ -85,7 +77,7 @@ pub record Stands (f w : List ℕ) (st : State) (d : Declared) : Type 0 where
   pub sizes : Sizes st
   pub counted : 3 ≤ st .group → st .counts .subjects * st .counts .objects * st .counts .actions ≤ 4096
   pub marks : (p x : ℕ) → p < 16 → x < 64 → getD (st .marks) (p * 64 + x) 0 ≡ flag (any (eqb x) (listedAt (d .predicates) p))
-  pub grants : (i : ℕ) → i < length (d .tables) → grantsOf i (st .grants) w ≡ getD (d .tables) i noTable .grants
+  pub grants : (i : ℕ) → i < length (d .tables) → grantsOf 0 i (st .grants) w ≡ getD (d .tables) i noTable .grants
   pub all-grants : st .grants ≡ granted (d .tables)
   pub rules : d .rules ≡ map storedRule (take (st .many) (st .rules))
   pub few-rules : st .many ≤ 64
