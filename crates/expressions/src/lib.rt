@@ -4,6 +4,7 @@ mod text_reader;
 use names::NameCounts;
 use names::NameKind;
 use names::look;
+use text_reader::ends_at;
 use text_reader::from_start;
 use words::Cell;
 use words::Made;
@@ -465,7 +466,7 @@ pub fn read<'a>(
             program: q,
         },
         Parsed::Good(n) => {
-            if n != t.len() {
+            if !ends_at(t, n) {
                 return Made {
                     answer: Parsed::Bad(n),
                     program: q,

@@ -1,11 +1,12 @@
 // The reader over the expression keeps the text and its place together. The borrow checker covers no function over such a struct, so each is proved by
-// hand. They are few, and leave the work to `expression`, which takes the text and the place.
+// hand. They are few, and leave the work to `expression` and `at_end`, which take the text and the place.
 use crate::expression;
 use names::NameCounts;
 use words::Made;
 use words::Program;
 ghost use mathlib.Core.Path.{_≡_};
 ghost use Prim.Native.Nat.{_≤_};
+ghost use lib.Dec.{eqb};
 ghost use lib.ListN.{length};
 ghost use Rattle.words.specs.Contract.{ExpressionAt};
 ghost use Rattle.names.specs.Entries.{Sound, lookupIn};
@@ -16,11 +17,11 @@ pub struct Reader<'a> {
     pub at: usize,
 }
 
-// A reader at the text's first byte.
-fn start<'a>(t: &'a [u8]) -> Reader<'a>
-    ensures { λ r. ⌜ (r .text ≡ t .entry) × (r .at ≡ 0) ⌝ }
+// A reader at a place of the text.
+fn at_place<'a>(t: &'a [u8], at: usize) -> Reader<'a>
+    ensures { λ r. ⌜ (r .text ≡ t .entry) × (r .at ≡ at) ⌝ }
 {
-    Reader { text: t, at: 0 }
+    Reader { text: t, at }
 }
 
 // Reads an expression at the reader's place.
@@ -54,5 +55,26 @@ pub fn from_start<'a>(
     requires { ⌜ Sound (now f) (now starts) (now ends) (now tags) counts ⌝ }
     ensures { λ m. ⌜ ExpressionAt (lookupIn (now (f .entry)) (now (starts .entry)) (now (ends .entry)) (now (tags .entry)) counts) (now (t .entry)) 0 allow p (m .program) (m .answer) ⌝ }
 {
-    expression_here(start(t), allow, f, starts, ends, tags, counts, p)
+    expression_here(at_place(t, 0), allow, f, starts, ends, tags, counts, p)
+}
+
+// Whether a place is the text's end.
+fn at_end(t: &[u8], at: usize) -> bool
+    ensures { λ b. ⌜ b ≡ eqb at (length (now (t .entry))) ⌝ }
+{
+    at == t.len()
+}
+
+// Whether the reader stands at the text's end.
+fn is_over<'a>(r: Reader<'a>) -> bool
+    ensures { λ b. ⌜ b ≡ eqb (r .entry .at) (length (now (r .entry .text))) ⌝ }
+{
+    at_end(r.text, r.at)
+}
+
+// Whether a reader at a place of the text stands at its end. Its parameters are plain, as those of `from_start` are.
+pub fn ends_at<'a>(t: &'a [u8], at: usize) -> bool
+    ensures { λ b. ⌜ b ≡ eqb at (length (now (t .entry))) ⌝ }
+{
+    is_over(at_place(t, at))
 }

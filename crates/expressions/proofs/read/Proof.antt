@@ -1,6 +1,7 @@
 use Rattle.expressions.proofs.Whole.{r-bad, r-rest, r-whole}
-use mathlib.Core.Path.{refl}
+use mathlib.Core.Path.{refl, sym, _∙_}
 use borrow.Author.Needs.{needs}
+use borrow.Author.Tests.{eqb-true, eqb-false, not-true, not-false}
 use Rattle.expressions.proofs.read.Statement.{statement}
 use Rattle.expressions.proofs.read.Tie as tie
 
@@ -13,16 +14,19 @@ enum-known-k c = search needs
 enum-known-k-2 : tie.Need-enum-known-k-2
 enum-known-k-2 c = search needs
 
+ends-at-requires : tie.Need-ends-at-requires
+ends-at-requires c κs = tt
+
 returns : tie.Need-returns
-returns c = r-rest _ _ _ _ (c .before .before .k2 .given .1) (c .before .before .before .before .before .from-start .ensures) _ (c .if1 .taken)
+returns c = r-rest _ _ _ _ (c .before .before .before .k2 .given .1) (c .before .before .before .before .before .before .from-start .ensures) _ (eqb-false _ _ (sym (c .before .ends-at .ensures) ∙ not-true _ (c .if1 .taken)))
 
 returns-2 : tie.Need-returns-2
 returns-2 c = r-bad _ _ _ _ _ (c .before .k .given .1) (c .before .before .before .before .from-start .ensures)
 
 returns-3 : tie.Need-returns-3
-returns-3 c = r-whole _ _ _ _ (c .before .before .k2 .given .1) (c .before .before .before .before .before .from-start .ensures) record { room = refl; no-cells = refl; no-operators = refl; no-height = refl; no-held = refl; no-place = refl } (c .before .before .before .before .before .before .before .before .before .before .before .pre .1) (c .if1 .left)
+returns-3 c = r-whole _ _ _ _ (c .before .before .before .k2 .given .1) (c .before .before .before .before .before .before .from-start .ensures) record { room = refl; no-cells = refl; no-operators = refl; no-height = refl; no-held = refl; no-place = refl } (c .before .before .before .before .before .before .before .before .before .before .before .before .pre .1) (eqb-true _ _ (sym (c .before .ends-at .ensures) ∙ not-false _ (c .if1 .left)))
 
 pub read-spec : {M : Type 1} → statement M
 read-spec =
     tie.close
-    (tie.spec from-start-requires enum-known-k enum-known-k-2 returns returns-2 returns-3)
+    (tie.spec from-start-requires enum-known-k enum-known-k-2 ends-at-requires returns returns-2 returns-3)
