@@ -1,9 +1,34 @@
--- The number that a verdict has.
+-- The rows one after the other, and the number that a verdict has.
 use mathlib.Core.Path.{_≡_, refl}
+use mathlib.Core.Bool.{Bool, true, false}
 use Prim.Native.Nat.{ℕ, zero, suc}
 use native.Mathlib.Omega.{arith}
-use Rattle.reader.specs.Rows.{good, refuse}
-use Rattle.rows.specs.First.{verdictAt}
+use Rattle.reader.specs.Rows.{Verdict, good, refuse, row, if, first}
+use Rattle.rows.specs.First.{verdictAt, firstMet}
+
+module _ (late counts many there : Bool) where
+  pub met-4 : late ≡ true → verdictAt 4 0 ≡ firstMet late counts many there
+  unfolding first row if
+  met-4 p = rw p
+
+  module _ (p : late ≡ false) where
+    pub met-8 : counts ≡ true → verdictAt 8 0 ≡ firstMet late counts many there
+    unfolding first row if
+    met-8 q = rw (p, q)
+
+    module _ (q : counts ≡ false) where
+      pub met-7 : many ≡ true → verdictAt 7 0 ≡ firstMet late counts many there
+      unfolding first row if
+      met-7 r = rw (p, q, r)
+
+      module _ (r : many ≡ false) where
+        pub met-5 : there ≡ true → verdictAt 5 0 ≡ firstMet late counts many there
+        unfolding first row if
+        met-5 s = rw (p, q, r, s)
+
+        pub met-none : there ≡ false → verdictAt 0 0 ≡ firstMet late counts many there
+        unfolding first row if
+        met-none s = rw (p, q, r, s)
 
 pub refused-is : (k n : ℕ) → verdictAt k 0 ≡ refuse n 0 → k ≡ n
 refused-is zero n e = absurd (let z : _≡_ {A = ℕ} 0 1 = cc in omega arith)
