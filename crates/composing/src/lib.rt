@@ -12,8 +12,6 @@ ghost use Rattle.algebra.specs.Bytes.{cleared};
 ghost use Rattle.engine.specs.Calls as Calls;
 ghost use Rattle.composing.specs.Composition.{composedOf, refusal};
 
-// ---- Compose
-
 // Number, line and place, all 0 when accepted; how many accesses there are, how many of them are permitted and undecided, and the
 // rounds, all 0 when refused.
 pub struct Composed {

@@ -21,8 +21,6 @@ ghost use Rattle.names.specs.Entries.{Sound, lookupIn};
 ghost use Rattle.engine.specs.Calls as Calls;
 ghost use Rattle.deciding.specs.Decision.{decidedOf, noAnswer, askedOf, askedIn};
 
-// ---- Decide
-
 // Number, line and place, all 0 when accepted; the answer as Compose would write it, and the rounds, both 0 when refused.
 pub struct Decided {
     pub number: u8,

@@ -29,6 +29,7 @@ pub struct Checked {
     pub actions: u8,
 }
 
+// Reads the file.
 pub fn check(f: &[u8]) -> Checked
     ensures { λ r. ⌜ checkedOf r ≡ Calls.check (now (f .entry)) ⌝ }
 {
@@ -55,6 +56,9 @@ pub fn check(f: &[u8]) -> Checked
     }
 }
 
+// ---- Compose and Decide. Row 1 comes first; all else is done in buffers that are large enough, and the memory is cleared once for every way out.
+
+// Writes the answer to every access.
 pub fn compose(f: &[u8], result: &mut [u8], w: &mut [u8]) -> Composed
     ensures { λ r. ⌜ composedOf r (now (result .exit)) (now (w .exit)) ≡ Calls.compose (now (f .entry)) (now (result .entry)) (now (w .entry)) ⌝ }
     ensures { λ r. ⌜ Promised (now (f .entry)) (composeSays r (now (result .exit))) ⌝ }
@@ -70,6 +74,7 @@ pub fn compose(f: &[u8], result: &mut [u8], w: &mut [u8]) -> Composed
     r
 }
 
+// Gives the answer to one access, by its names.
 pub fn decide<'a>(f: &'a [u8], s: &'a [u8], o: &'a [u8], a: &'a [u8], w: &mut [u8]) -> Decided
     ensures { λ r. ⌜ decidedOf r (now (w .exit)) ≡ Calls.decide (now (f .entry)) (now (s .entry)) (now (o .entry)) (now (a .entry)) (now (w .entry)) ⌝ }
     ensures { λ r. ⌜ Promised (now (f .entry)) (decideSays (now (f .entry)) (now (s .entry)) (now (o .entry)) (now (a .entry)) r) ⌝ }

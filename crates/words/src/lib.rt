@@ -161,7 +161,7 @@ pub enum OpRead {
     NoComparison(usize),
 }
 
-// A scope's step but for its number, the name from `from` up to `to` that has it, and what comes after the scope.
+// A scope's or a closure's step but for its number, the name from `from` up to `to` that has it, and where the text goes on after it.
 pub struct ScopeText {
     pub name: NameKind,
     pub cell: Cell,
