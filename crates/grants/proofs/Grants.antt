@@ -1,36 +1,22 @@
 -- Laws of the grants in working memory: sets leave them alone, and a loop that marks one grant a turn.
-use mathlib.Core.Path.{_≡_, refl, sym, ap, _∙_}
+use mathlib.Core.Path.{_≡_, sym, ap, _∙_}
 use mathlib.Core.Bool.{true, _||_, or-false, or-true}
-use mathlib.Core.List.{List, [], _∷_, _++_, append-nil}
-use Prim.Native.Nat.{ℕ, zero, suc, _+_, _*_, _/_, _%_, _≤_, _<_}
+use mathlib.Core.List.{List, [], _∷_, _++_}
+use Prim.Native.Nat.{ℕ, _+_, _*_, _/_, _%_, _≤_, _<_}
 use native.Mathlib.Nat.{le-antisymm}
 use native.Mathlib.Decide.{ℕ-discrete}
-use native.Mathlib.Numerals.{add-one}
 use native.Mathlib.Omega.{arith}
 use lib.Dec.{eqb}
 use lib.ListN.{length, getD, set, length-set}
 use lib.Seq.{getD-set-same, getD-set-other}
 use borrow.Author.Tests.{eq-eqb, ne-eqb}
-use Rattle.algebra.specs.Lists.{any, tabFrom, tab, gather, only, upto}
+use Rattle.algebra.specs.Lists.{any, tab, gather, only, upto}
 use Rattle.algebra.specs.Answer.{Answer, deny, permit, byte, sure}
 use Rattle.sets.specs.Bytes.{put}
 use Rattle.sets.specs.Sets.{Room, byteAt, putSet}
 use Rattle.algebra.specs.Grants.{grantAt, grantsOf}
 use Rattle.sets.proofs.Sets.{length-putSet, putSet-low, putSet-at, putSet-high, putSet-cong, is-putSet, putSet-twice}
-use Rattle.algebra.proofs.Lists.{any-append, gather-append}
-
--- ---- lists
-
-gather-cong : {A B : Type 0} (f g : A → List B) (xs : List A) → ((x : A) → f x ≡ g x) → gather f xs ≡ gather g xs
-gather-cong f g [] h = refl
-gather-cong f g (x ∷ xs) h = rw (h x, gather-cong f g xs h)
-
-upto-more : (n : ℕ) → upto (suc n) ≡ upto n ++ (n ∷ [])
-upto-more n = from 0 n ∙ ap (λ m. upto n ++ (m ∷ [])) (omega arith)
-  where
-    from : (i n : ℕ) → tabFrom i (suc n) (λ j. j) ≡ tabFrom i n (λ j. j) ++ ((i + n) ∷ [])
-    from i zero = ap (λ m. m ∷ []) (omega arith)
-    from i (suc n) = ap (λ l. i ∷ l) (from (suc i) n ∙ ap (λ m. tabFrom (suc i) n (λ j. j) ++ (m ∷ [])) (omega arith))
+use Rattle.algebra.proofs.Lists.{any-append, gather-same, gather-more}
 
 -- ---- sets leave the grants alone
 
@@ -40,7 +26,7 @@ module _ (k n : ℕ) (f : ℕ → Answer) (w : List ℕ) (room : Room k n w) whe
 
   pub grantsOf-putSet : (table count : ℕ) → grantsOf 57344 table count (putSet k n f w) ≡ grantsOf 57344 table count w
   unfolding grantsOf
-  grantsOf-putSet table count = gather-cong _ _ (upto count) (λ i. ap (λ g. only (eqb (g / 4096) table) (g % 4096 ∷ [])) (grantAt-putSet i))
+  grantsOf-putSet table count = gather-same _ _ (upto count) (λ i _. ap (λ g. only (eqb (g / 4096) table) (g % 4096 ∷ [])) (grantAt-putSet i))
 
 -- ---- the answers that the first i grants give a table
 
@@ -53,8 +39,7 @@ module _ (table i : ℕ) (w : List ℕ) (x : ℕ) where
   unfolding grantsOf
   grants-more =
       let f : ℕ → List ℕ = λ i. only (eqb (grantAt 57344 w i / 4096) table) (grantAt 57344 w i % 4096 ∷ []) in
-      let more : gather f (upto (i + 1)) ≡ gather f (upto i) ++ f i =
-      ap (λ n. gather f (upto n)) (add-one i) ∙ ap (gather f) (upto-more i) ∙ gather-append f (upto i) (i ∷ []) ∙ ap (λ l. gather f (upto i) ++ l) (append-nil (f i)) in
+      let more : gather f (upto (i + 1)) ≡ gather f (upto i) ++ f i = gather-more f i in
       ap (any (eqb x)) more ∙ any-append (eqb x) (gather f (upto i)) (f i)
 
   -- another table's
