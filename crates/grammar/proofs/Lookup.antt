@@ -1,5 +1,5 @@
-use Rattle.grammar.specs.Lookup.{same, positionFrom, position, found}
 -- Laws of looking up a name: what is found is below the list's length, and stays found as the list grows.
+use Rattle.grammar.specs.Lookup.{same, positionFrom, position, found}
 use mathlib.Core.Path.{_≡_, refl, ap, _∙_}
 use mathlib.Core.Bool.{Bool, true, false}
 use mathlib.Core.List.{List, [], _∷_, _++_}
