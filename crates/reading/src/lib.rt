@@ -9,19 +9,25 @@ use lines::text::Part;
 use lines::text::is_file;
 use lines::text::piece_end;
 use names::NameCounts;
-use rule_lines::grant_body_line;
-use rule_lines::has_body_line;
-use rule_lines::order_body_line;
-use rule_lines::rule_line;
+use rule_lines::first_rule;
+use rule_lines::is_body;
+use rule_lines::judge_body;
+use rule_lines::last_at;
+use rule_lines::lines_in;
+use rule_lines::new_rule;
+use rule_lines::with_line;
 use state::Granted;
+use state::Joining;
 use state::Marking;
-use state::Next;
 use state::State;
-use state::child_line;
 use state::judge_grant;
+use state::judge_joining;
 use state::judge_predicate;
+use state::member_entry;
+use state::members;
+use state::more_members;
 use state::placed;
-use state::root_line;
+use state::rules::judge_rule;
 use state::table_line;
 use words::Cell;
 use words::Place;
@@ -30,10 +36,9 @@ ghost use mathlib.Core.Path.{_≡_};
 ghost use mathlib.Core.List.{List};
 ghost use Prim.Native.Nat.{ℕ, _+_, _*_, _≤_, _<_};
 ghost use lib.ListN.{length, drop};
-ghost use Rattle.reader.specs.Declarations.{Declared, start};
-ghost use Rattle.lines.specs.Parsed.{LineWithin, lineOf};
+ghost use Rattle.reader.specs.Declarations.{start};
 ghost use Rattle.state.specs.Standing.{Few, Sizes, Stands, morePredicates, placedOf, markedOf, grantWritten};
-ghost use Rattle.reading.specs.Reading.{Held, Kept, LineRead, ReadAs};
+ghost use Rattle.reading.specs.Reading.{ReadAs};
 
 // A file refused with number, line and place; or the number 0, the state after the file's lines, and the goal of its E line.
 pub struct Reading {
@@ -148,27 +153,7 @@ fn first_mark(st: State, s: u8, p: Part, x: u8) -> State
     next
 }
 
-// ---- lines
-
-// A line that is neither P, whose mark is set where it stands, nor G, whose grant goes to the lent memory, nor E, which has a goal.
-fn other_line(f: &[u8], st: State, l: Parsed) -> Next
-    requires { ⌜ Held (now f) st × LineWithin (now f) l × Kept l × (length (now f) ≤ 32768) ⌝ }
-    ensures { λ r. ⌜ ((w : List ℕ) (d : Declared) → Stands (now (f .entry)) w st d → LineRead (now (f .entry)) w d (lineOf (now (f .entry)) l) r) ⌝ }
-{
-    match l {
-        Parsed::Root(s, name) => root_line(f, st, s, name),
-        Parsed::Child(s, name, parent) => child_line(f, st, s, name, parent),
-        Parsed::Table(t, here) => table_line(f, st, t, here),
-        Parsed::Rule(set, s, o, a) => rule_line(f, st, set, s, o, a),
-        Parsed::GrantBody(s, o, a) => grant_body_line(f, st, s, o, a),
-        Parsed::OrderBody(op, s, x, y) => order_body_line(f, st, op, s, x, y),
-        Parsed::HasBody(s, p, x) => has_body_line(f, st, s, p, x),
-        _ => Next {
-            number: 3,
-            state: st,
-        },
-    }
-}
+// ---- G lines
 
 // Writes grant i.
 fn put_grant(w: &mut [u8], i: usize, g: u16)
@@ -269,8 +254,46 @@ pub fn read_policy(f: &[u8], w: &mut [u8]) -> Reading
                 st.group = 7;
                 continue;
             }
-            _ => {
-                let next = other_line(f, st, l);
+            Parsed::Rule(set, s, o, a) => {
+                let n = st.counts;
+                let many = st.many;
+                let j = judge_rule(
+                    f,
+                    &st.starts,
+                    &st.ends,
+                    &st.tags,
+                    n,
+                    st.group,
+                    many,
+                    set,
+                    s,
+                    o,
+                    a,
+                );
+                if j.number != 0 {
+                    return Reading {
+                        number: j.number,
+                        line,
+                        place: 0,
+                        state: st,
+                        goal,
+                    };
+                }
+                let rule = new_rule(j.set, j.head);
+                let sorts = j.sorts;
+                if j.fresh {
+                    st = first_rule(st, set, rule, sorts);
+                    continue;
+                }
+                let i = wide(many);
+                st.rules[i] = rule;
+                st.many = many + 1;
+                st.sorts = sorts;
+                st.group = 6;
+                continue;
+            }
+            Parsed::Table(t, here) => {
+                let next = table_line(f, st, t, here);
                 if next.number != 0 {
                     return Reading {
                         number: next.number,
@@ -281,6 +304,74 @@ pub fn read_policy(f: &[u8], w: &mut [u8]) -> Reading
                     };
                 }
                 st = next.state;
+                continue;
+            }
+            _ => {
+                let n = st.counts;
+                let j = judge_joining(f, &st.starts, &st.ends, &st.tags, n, st.group, l);
+                match j {
+                    Joining::Barred(k) => {
+                        return Reading {
+                            number: k,
+                            line,
+                            place: 0,
+                            state: st,
+                            goal,
+                        };
+                    }
+                    Joining::Joins(s, name, tag) => {
+                        let m = members(n, s);
+                        let i = member_entry(s, m);
+                        st.starts[i] = name.from as u16;
+                        st.ends[i] = name.to as u16;
+                        st.tags[i] = tag;
+                        st.counts = more_members(n, s);
+                        st.group = s;
+                        continue;
+                    }
+                    Joining::Elsewhere => {
+                        if !is_body(l) {
+                            return Reading {
+                                number: 3,
+                                line,
+                                place: 0,
+                                state: st,
+                                goal,
+                            };
+                        }
+                        let many = st.many;
+                        let i = last_at(many);
+                        let last = st.rules[i];
+                        let lines = lines_in(many, last);
+                        let sorts = st.sorts;
+                        let b = judge_body(
+                            f,
+                            &st.starts,
+                            &st.ends,
+                            &st.tags,
+                            n,
+                            st.group,
+                            many,
+                            lines,
+                            sorts,
+                            l,
+                        );
+                        if b.number != 0 {
+                            return Reading {
+                                number: b.number,
+                                line,
+                                place: 0,
+                                state: st,
+                                goal,
+                            };
+                        }
+                        st.rules[i] = with_line(last, b.atom);
+                        let noted = b.sorts;
+                        st.sorts = noted;
+                        st.group = 6;
+                        continue;
+                    }
+                }
             }
         }
     }

@@ -88,46 +88,6 @@ pub member-early : (d : Declared) (σ : Sort) (n : List ℕ) (p : Option (List �
 unfolding groupOf
 member-early d σ n p e = let h = no-earlier d (memberLine σ n p) (good-rows d (memberLine σ n p) e .row-4) in let s = sort-low σ in omega arith
 
--- ---- a member's line, with the state after it
-
-module _ (f w : List ℕ) (st : State) (d : Declared) (S : Stands f w st d) (s from to : ℕ) (low : s ≤ 2) (order : from ≤ to) (in-file : to ≤ length f) where
-  abbrev σ : Sort
-  σ = storedSort s
-
-  abbrev n : List ℕ
-  n = slice from to f
-
-  counts-are : memberCount (st .counts) σ ≡ count d σ
-  counts-are = sym (count-is f (st .starts) (st .ends) (st .tags) (st .counts) d (S .names) σ)
-
-  -- the state with the name of the member and the tag of its parent
-  pub member-line : Passes d σ n → (p : Option (List ℕ)) (tag : ℕ) → parentTag (parentOf (d .members) σ p) ≡ tag → notDeclared d (memberLine σ n p) ≡ false
-      → LineJudged f w d (memberLine σ n p) (record { number = 0; state = placedOf st (memberBase σ + memberCount (st .counts) σ) from to tag (moreMembers (st .counts) σ) s })
-  member-line h p tag t e =
-      line-good (h .is-good p e)
-      (subst (λ (g : ℕ). Stands f w (placedOf st (memberBase σ + memberCount (st .counts) σ) from to tag (moreMembers (st .counts) σ) g) (add d (memberLine σ n p))) (sort-group s low)
-      (member-added f w st d S σ from to tag p order in-file t (rw counts-are (h .room)) (let g = member-early d σ n p (h .is-good p e) in let k = S .is-group in omega arith)))
-
-  pub root-declared : notDeclared d (memberLine σ n none) ≡ false
-  unfolding notDeclared isParent
-  root-declared = refl
-
-  pub root-tag : parentTag (parentOf (d .members) σ none) ≡ 0
-  unfolding parentTag parentOf
-  root-tag = refl
-
-  pub child-no : (q : List ℕ) → lookupIn f (st .starts) (st .ends) (st .tags) (st .counts) (Kinds.member σ) q ≡ none → notDeclared d (memberLine σ n (some q)) ≡ true
-  unfolding notDeclared isParent isMember found lookup
-  child-no q e = rw (sym (lookup-is f (st .starts) (st .ends) (st .tags) (st .counts) d (S .names) (Kinds.member σ) q) ∙ e)
-
-  pub child-yes : (q : List ℕ) (i : ℕ) → lookupIn f (st .starts) (st .ends) (st .tags) (st .counts) (Kinds.member σ) q ≡ some i → notDeclared d (memberLine σ n (some q)) ≡ false
-  unfolding notDeclared isParent isMember found lookup
-  child-yes q i e = rw (sym (lookup-is f (st .starts) (st .ends) (st .tags) (st .counts) d (S .names) (Kinds.member σ) q) ∙ e)
-
-  pub child-tag : (q : List ℕ) (i : ℕ) → lookupIn f (st .starts) (st .ends) (st .tags) (st .counts) (Kinds.member σ) q ≡ some i → parentTag (parentOf (d .members) σ (some q)) ≡ suc i
-  unfolding parentTag parentOf lookup
-  child-tag q i e = rw (sym (lookup-is f (st .starts) (st .ends) (st .tags) (st .counts) d (S .names) (Kinds.member σ) q) ∙ e)
-
 -- ---- bases
 
 pub base-subject : (s : ℕ) → s ≡ 0 → 0 ≡ memberBase (storedSort s)
@@ -148,20 +108,15 @@ more-object c s e = rw (sort-one s e)
 pub more-action : (c : NameCounts) (s : ℕ) → (s ≡ 0 → ⊥) → (s ≡ 1 → ⊥) → moreMembers c action ≡ moreMembers c (storedSort s)
 more-action c s e k = rw (sort-other s e k)
 
+pub base-low : (σ : Sort) → memberBase σ ≤ 128
+base-low subject = omega arith
+base-low object = omega arith
+base-low action = omega arith
+
 pub base-fits : (c : NameCounts) → Few c → (σ : Sort) → memberBase σ + memberCount c σ < 192
 base-fits c few subject = let h = few .subjects in omega arith
 base-fits c few object = let h = few .objects in omega arith
 base-fits c few action = let h = few .actions in omega arith
-
--- the same of a state that is that one
-pub member-line-as : (f w : List ℕ) (st : State) (d : Declared) (S : Stands f w st d) (s from to : ℕ) → s ≤ 2 → from ≤ to → to ≤ length f → Passes d (storedSort s) (slice from to f)
-    → (p : Option (List ℕ)) (tag : ℕ) → parentTag (parentOf (d .members) (storedSort s) p) ≡ tag → notDeclared d (memberLine (storedSort s) (slice from to f) p) ≡ false
-    → (b k i : ℕ) (c : NameCounts) (st′ : State) → b ≡ memberBase (storedSort s) → k ≡ memberCount (st .counts) (storedSort s) → i ≡ b + k → c ≡ moreMembers (st .counts) (storedSort s)
-    → st′ ≡ placedOf st i from to tag c s → LineJudged f w d (memberLine (storedSort s) (slice from to f) p) (record { number = 0; state = st′ })
-member-line-as f w st d S s from to low order in-file h p tag t e b k i c st′ eb ek ei ec es =
-    subst (λ (x : State). LineJudged f w d (memberLine (storedSort s) (slice from to f) p) (record { number = 0; state = x }))
-    (sym (es ∙ ap₂ (λ (j : ℕ) (n : NameCounts). placedOf st j from to tag n s) (ei ∙ ap₂ _+_ eb ek) ec))
-    (member-line f w st d S s from to low order in-file h p tag t e)
 
 -- ---- a table's line, with the state after it
 
