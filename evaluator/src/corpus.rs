@@ -1,12 +1,16 @@
 //! Comparison with a corpus folder: `GROUP/NAME.pol` with the listing in
-//! `GROUP/NAME.out`; `asks.tsv` with what Decide returns; and the answers that
-//! `READINGS.md` shows for the files of the group `readings`.
+//! `GROUP/NAME.out`; `asks.tsv` with what Decide returns; `lookups.tsv` with
+//! what the index of names gives; and the answers that `READINGS.md` shows for
+//! the files of the group `readings`. Below `cr/` each folder is a corpus of
+//! its own, that of a change request.
 
 use std::fs;
 use std::io;
 use std::path::{Path, PathBuf};
 
-use crate::{check, decide, list};
+use crate::lookups::sort_of;
+use crate::policy::Sort;
+use crate::{check, decide, list, lookup};
 
 /// The outcome of a comparison: how many agreed, and a text for each that did
 /// not.
@@ -64,16 +68,40 @@ pub fn decide_line(file: &[u8], names: [&[u8]; 3]) -> String {
     }
 }
 
+/// A lookup's answer as one line, without its LF.
+pub fn lookup_line(file: &[u8], sort: Sort, name: &[u8]) -> String {
+    match lookup(file, sort, name) {
+        Ok(found) => found.to_string(),
+        Err(refusal) => refusal.to_string(),
+    }
+}
+
+/// The folder of the change requests' corpora.
+const REQUESTS: &str = "cr";
+
 /// Compares a whole corpus. A folder that has nothing to compare is a failure.
 pub fn compare(folder: &Path) -> io::Result<Report> {
     let mut report = Report::default();
-    compare_listings(folder, &mut report)?;
-    compare_asks(folder, &mut report)?;
-    compare_readings(folder, &mut report)?;
-    if report.passed == 0 {
-        report.fail(&folder.display().to_string(), "nothing agreed");
+    compare_folder(folder, &mut report)?;
+    let requests = folder.join(REQUESTS);
+    if requests.is_dir() {
+        for request in entries(&requests)? {
+            compare_folder(&request, &mut report)?;
+        }
     }
     Ok(report)
+}
+
+fn compare_folder(folder: &Path, report: &mut Report) -> io::Result<()> {
+    let before = report.passed;
+    compare_listings(folder, report)?;
+    compare_asks(folder, report)?;
+    compare_lookups(folder, report)?;
+    compare_readings(folder, report)?;
+    if report.passed == before {
+        report.fail(&folder.display().to_string(), "nothing agreed");
+    }
+    Ok(())
 }
 
 /// A folder's paths, by name.
@@ -85,7 +113,8 @@ pub fn entries(folder: &Path) -> io::Result<Vec<PathBuf>> {
 }
 
 fn compare_listings(folder: &Path, report: &mut Report) -> io::Result<()> {
-    for group in entries(folder)?.iter().filter(|path| path.is_dir()) {
+    let is_group = |path: &&PathBuf| path.is_dir() && !path.ends_with(REQUESTS);
+    for group in entries(folder)?.iter().filter(is_group) {
         for path in entries(group)? {
             let what = path.display().to_string();
             match path.extension().and_then(|extension| extension.to_str()) {
@@ -118,6 +147,33 @@ fn compare_asks(folder: &Path, report: &mut Report) -> io::Result<()> {
             Ok(file) => {
                 let names = [s, o, a].map(str::as_bytes);
                 report.compare(&what, stored, &decide_line(&file, names));
+            }
+            Err(error) => report.fail(&what, &format!("no policy: {error}")),
+        }
+    }
+    Ok(())
+}
+
+/// A head line, then lines of file, sort, name and what is found, parted by
+/// tabs.
+fn compare_lookups(folder: &Path, report: &mut Report) -> io::Result<()> {
+    let path = folder.join("lookups.tsv");
+    if !path.exists() {
+        return Ok(());
+    }
+    for (number, line) in fs::read_to_string(path)?.lines().enumerate().skip(1) {
+        let what = format!("lookups.tsv line {}", number + 1);
+        let fields: Vec<&str> = line.split('\t').collect();
+        let ([file, _, name, stored], Some(sort)) =
+            (&fields[..], fields.get(1).copied().and_then(sort_of))
+        else {
+            report.fail(&what, "not a file, a sort, a name and an answer");
+            continue;
+        };
+        match fs::read(folder.join(format!("{file}.pol"))) {
+            Ok(policy) => {
+                let found = lookup_line(&policy, sort, name.as_bytes());
+                report.compare(&what, stored, &found);
             }
             Err(error) => report.fail(&what, &format!("no policy: {error}")),
         }

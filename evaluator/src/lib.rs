@@ -1,6 +1,6 @@
 //! The separate evaluator: document 01's three calls and its listing program,
-//! written straight from that document. It lends no buffers and has no working
-//! memory, so number 1 never comes from it.
+//! and document 02's index of names, written straight from these documents. It
+//! lends no buffers and has no working memory, so number 1 never comes from it.
 
 pub mod closure;
 pub mod compose;
@@ -8,13 +8,16 @@ pub mod corpus;
 pub mod edges;
 pub mod expression;
 pub mod generate;
+pub mod index;
 pub mod larger;
 pub mod listing;
+pub mod lookups;
 pub mod policy;
 pub mod reader;
 pub mod refusal;
 
 pub use compose::{Composed, Decision};
+pub use index::Lookup;
 pub use refusal::Refusal;
 
 /// Check: the three sort counts of an accepted file.
@@ -35,6 +38,12 @@ pub fn decide(
     action: &[u8],
 ) -> Result<Decision, Refusal> {
     compose::decide(&reader::read(file)?, [subject, object, action])
+}
+
+/// A name looked up in the index of a sort's members.
+pub fn lookup(file: &[u8], sort: policy::Sort, name: &[u8]) -> Result<Lookup, Refusal> {
+    let policy = reader::read(file)?;
+    Ok(index::Index::new(&policy.members_of(sort).names).search(name))
 }
 
 /// What the listing program prints for a file.

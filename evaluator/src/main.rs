@@ -9,17 +9,22 @@ use std::process::ExitCode;
 use evaluator::corpus;
 use evaluator::edges;
 use evaluator::generate::{self, Kind};
+use evaluator::index::fnv1a;
 use evaluator::larger;
+use evaluator::lookups;
 use evaluator::reader::MOST_FILE_BYTES;
 
 const USAGE: &str = "usage:
   evaluator list < FILE
   evaluator check < FILE
   evaluator decide SUBJECT OBJECT ACTION < FILE
-  evaluator generate SEED COUNT sound|damaged|large|mixed DIR
+  evaluator lookup S|O|A NAME < FILE
+  evaluator fnv TEXT
+  evaluator generate SEED COUNT sound|damaged|large|mixed|crowded DIR
   evaluator corpus DIR
-  evaluator check-folder|compose-folder DIR
+  evaluator check-folder|compose-folder|lookup-folder DIR
   evaluator edges|larger DIR
+  evaluator lookups CORPUS DIR
 ";
 
 fn main() -> ExitCode {
@@ -39,6 +44,11 @@ fn run(arguments: &[OsString]) -> io::Result<ExitCode> {
         [b"list"] => print(&evaluator::list(&input()?)),
         [b"check"] => print(&(corpus::check_line(&input()?) + "\n")),
         [b"decide", s, o, a] => print(&(corpus::decide_line(&input()?, [s, o, a]) + "\n")),
+        [b"lookup", letter, name] => match lookups::sort_of(&String::from_utf8_lossy(letter)) {
+            Some(sort) => print(&(corpus::lookup_line(&input()?, sort, name) + "\n")),
+            None => usage(),
+        },
+        [b"fnv", text] => print(&format!("{:#010x}\n", fnv1a(text))),
         [b"generate", seed, count, kind, _] => {
             let kind = Kind::ALL.into_iter().find(|k| k.word().as_bytes() == kind);
             match (number(seed), number(count), kind) {
@@ -49,13 +59,18 @@ fn run(arguments: &[OsString]) -> io::Result<ExitCode> {
             }
         }
         [b"corpus", _] => compare(Path::new(&arguments[1])),
-        [b"check-folder", _] => print(&said(Path::new(&arguments[1]), edges::fields)?),
-        [b"compose-folder", _] => print(&said(Path::new(&arguments[1]), larger::fields)?),
+        [b"check-folder", _] => write(&said(Path::new(&arguments[1]), checked)?),
+        [b"compose-folder", _] => write(&said(Path::new(&arguments[1]), composed)?),
+        [b"lookup-folder", _] => write(&said(Path::new(&arguments[1]), lookups::printed)?),
         [b"edges", _] => {
             let files = edges::all().into_iter().map(|edge| (edge.name, edge.file));
-            write_program(Path::new(&arguments[1]), files.collect(), edges::fields)
+            write_program(Path::new(&arguments[1]), files.collect(), checked)
         }
-        [b"larger", _] => write_program(Path::new(&arguments[1]), larger::files(), larger::fields),
+        [b"larger", _] => write_program(Path::new(&arguments[1]), larger::files(), composed),
+        [b"lookups", _, _] => {
+            let files = lookups::files(Path::new(&arguments[1]))?;
+            write_program(Path::new(&arguments[2]), files, lookups::printed)
+        }
         _ => usage(),
     }
 }
@@ -73,7 +88,11 @@ fn number(text: &[u8]) -> Option<u64> {
 }
 
 fn print(text: &str) -> io::Result<ExitCode> {
-    io::stdout().write_all(text.as_bytes())?;
+    write(text.as_bytes())
+}
+
+fn write(text: &[u8]) -> io::Result<ExitCode> {
+    io::stdout().write_all(text)?;
     Ok(ExitCode::SUCCESS)
 }
 
@@ -91,12 +110,23 @@ fn write_policies(seed: u64, count: u64, kind: Kind, folder: &Path) -> io::Resul
     Ok(ExitCode::SUCCESS)
 }
 
-/// A line for each file of a folder, by name: the name and these fields of it.
-fn said(folder: &Path, fields: fn(&[u8]) -> String) -> io::Result<String> {
-    let mut text = String::new();
+/// What a program prints for a file, given its name and bytes.
+type Printed = fn(&str, &[u8]) -> Vec<u8>;
+
+fn checked(name: &str, file: &[u8]) -> Vec<u8> {
+    format!("{name},{}\n", edges::fields(file)).into_bytes()
+}
+
+fn composed(name: &str, file: &[u8]) -> Vec<u8> {
+    format!("{name},{}\n", larger::fields(file)).into_bytes()
+}
+
+/// What a program prints for all files of a folder, by name.
+fn said(folder: &Path, printed: Printed) -> io::Result<Vec<u8>> {
+    let mut text = Vec::new();
     for path in corpus::entries(folder)? {
         let name = path.file_name().unwrap_or_default().to_string_lossy();
-        text += &format!("{name},{}\n", fields(&fs::read(&path)?));
+        text.extend(printed(&name, &fs::read(&path)?));
     }
     Ok(text)
 }
@@ -105,7 +135,7 @@ fn said(folder: &Path, fields: fn(&[u8]) -> String) -> io::Result<String> {
 fn write_program(
     folder: &Path,
     files: Vec<(String, Vec<u8>)>,
-    fields: fn(&[u8]) -> String,
+    printed: Printed,
 ) -> io::Result<ExitCode> {
     let data = folder.join("data");
     fs::create_dir_all(&data)?;
@@ -115,7 +145,7 @@ fn write_program(
         names += &format!("{name}\n");
     }
     fs::write(folder.join("args"), names)?;
-    fs::write(folder.join("stdout"), said(&data, fields)?)?;
+    fs::write(folder.join("stdout"), said(&data, printed)?)?;
     Ok(ExitCode::SUCCESS)
 }
 

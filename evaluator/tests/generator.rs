@@ -4,6 +4,7 @@
 use evaluator::expression::{operators, sets_held, Join, Step};
 use evaluator::generate::random::Random;
 use evaluator::generate::{self, Kind};
+use evaluator::index::{slot, Index, SLOTS};
 use evaluator::policy::{Atom, Policy};
 use evaluator::reader::read;
 use evaluator::{check, compose, decide, list};
@@ -173,6 +174,35 @@ fn large_files_are_near_the_limits() {
             "{wanted}"
         );
     }
+}
+
+#[test]
+fn crowded_files_share_slots() {
+    let (mut longest, mut round, mut numbers) = (0, 0, Vec::new());
+    for file in files(7, 300, Kind::Crowded) {
+        let policy = match read(&file) {
+            Ok(policy) => policy,
+            Err(refusal) => {
+                numbers.push(refusal.number);
+                continue;
+            }
+        };
+        for sort in &policy.members {
+            let index = Index::new(&sort.names);
+            for name in &sort.names {
+                let found = index.search(name);
+                longest = longest.max(found.read);
+                round += usize::from(slot(name) + found.read > SLOTS);
+            }
+        }
+    }
+    assert_eq!(longest, 64);
+    assert!(round > 1_000, "{round}");
+    for wanted in [5, 6] {
+        let times = numbers.iter().filter(|&&number| number == wanted).count();
+        assert!(times > 10, "{wanted}: {numbers:?}");
+    }
+    assert!(numbers.len() < 80, "{numbers:?}");
 }
 
 #[test]

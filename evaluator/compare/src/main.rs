@@ -2,16 +2,19 @@
 //!
 //!   compare check SEED COUNT            Check on generated files
 //!   compare calls SEED COUNT            Check, Compose and Decide on generated files, with every buffer
+//!   compare crowded SEED COUNT          the same on files whose members' names share slots of the index
 //!   compare edits FILE                  all three on FILE cut at every byte, and with every byte changed
 //!   compare corpus DIR                  all three on every policy of a corpus, with asks.tsv
 //!   compare folder DIR                  all three on every policy of a folder
 //!   compare list PROGRAM SEED COUNT     the listing program on generated files
+//!   compare lookups PROGRAM SEED COUNT  the program of lookups on the crowded files
 //!
 //! `run` does all of these. The last line reads 'N passed, M failed'; a difference prints the seed and number that make the file again.
 
 mod buffers;
 mod calls;
 mod edits;
+mod lookups;
 
 use evaluator::generate::{policy, Kind};
 use std::io::Write;
@@ -39,11 +42,11 @@ impl Tally {
     }
 }
 
-fn generated(seed: u64, count: u64, mut compare: impl FnMut(&[u8]) -> Option<String>) -> Tally {
+fn generated(kind: Kind, seed: u64, count: u64, mut compare: impl FnMut(&[u8]) -> Option<String>) -> Tally {
     let mut tally = Tally::default();
     for number in 0..count {
-        let file = policy(seed, number, Kind::Mixed);
-        tally.count(|| format!("seed {seed} number {number} (mixed)"), compare(&file));
+        let file = policy(seed, number, kind);
+        tally.count(|| format!("seed {seed} number {number} ({})", kind.word()), compare(&file));
     }
     tally
 }
@@ -65,7 +68,7 @@ fn folder(path: &str, tally: &mut Tally) {
 
 fn corpus(path: &str) -> Tally {
     let mut tally = Tally::default();
-    for group in ["worked", "readings", "valid", "broken", "big"] {
+    for group in ["worked", "readings", "valid", "broken", "big", "cr/02/readings", "cr/02/valid", "cr/02/broken"] {
         folder(&format!("{path}/{group}"), &mut tally);
     }
     for line in std::fs::read_to_string(format!("{path}/asks.tsv")).expect("asks.tsv").lines() {
@@ -115,8 +118,9 @@ fn number(word: Option<&String>) -> u64 {
 fn main() -> ExitCode {
     let words: Vec<String> = std::env::args().skip(1).collect();
     let tally = match words.first().map(String::as_str) {
-        Some("check") => generated(number(words.get(1)), number(words.get(2)), calls::check),
-        Some("calls") => generated(number(words.get(1)), number(words.get(2)), calls::all),
+        Some("check") => generated(Kind::Mixed, number(words.get(1)), number(words.get(2)), calls::check),
+        Some("calls") => generated(Kind::Mixed, number(words.get(1)), number(words.get(2)), calls::all),
+        Some("crowded") => generated(Kind::Crowded, number(words.get(1)), number(words.get(2)), calls::all),
         Some("edits") => edits::all(&std::fs::read(&words[1]).expect("a policy")),
         Some("corpus") => corpus(&words[1]),
         Some("folder") => {
@@ -124,9 +128,10 @@ fn main() -> ExitCode {
             folder(&words[1], &mut tally);
             tally
         }
-        Some("list") => generated(number(words.get(2)), number(words.get(3)), |file| listing(&words[1], file)),
+        Some("list") => generated(Kind::Mixed, number(words.get(2)), number(words.get(3)), |file| listing(&words[1], file)),
+        Some("lookups") => lookups::all(&words[1], number(words.get(2)), number(words.get(3))),
         _ => {
-            eprintln!("compare check|calls SEED COUNT | edits FILE | corpus DIR | folder DIR | list PROGRAM SEED COUNT");
+            eprintln!("compare check|calls|crowded SEED COUNT | edits FILE | corpus DIR | folder DIR | list|lookups PROGRAM SEED COUNT");
             return ExitCode::FAILURE;
         }
     };

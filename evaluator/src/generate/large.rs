@@ -47,6 +47,7 @@ fn full_house(random: &mut Random) -> Draft {
         grants: random.choose(&[0, 40, 200, 800]),
         instances: 20_000,
         short_names: random.percent(80),
+        crowd: None,
         bounds: Bounds {
             operators: 64,
             sets: 14,
@@ -71,6 +72,7 @@ fn small(random: &mut Random) -> Draft {
         grants: 12,
         instances: 5_000,
         short_names: true,
+        crowd: None,
         bounds: Bounds {
             operators: 10,
             sets: 5,
@@ -340,6 +342,7 @@ fn dense_rules(random: &mut Random) -> Draft {
         grants: random.choose(&[60, 300, 1_000]),
         instances: 300_000,
         short_names: true,
+        crowd: None,
         bounds: Bounds {
             operators: 3,
             sets: 3,

@@ -1,6 +1,7 @@
 //! A seeded generator of policy files, for comparing programs on many files.
 //! The same seed, number and kind give the same bytes on every machine.
 
+mod crowded;
 mod damaged;
 mod expression;
 mod large;
@@ -17,12 +18,20 @@ pub enum Kind {
     Damaged,
     /// Files near the limits, some of them just past one.
     Large,
-    /// All of these.
+    /// All of the above.
     Mixed,
+    /// Files whose members' names share slots of the index.
+    Crowded,
 }
 
 impl Kind {
-    pub const ALL: [Kind; 4] = [Kind::Sound, Kind::Damaged, Kind::Large, Kind::Mixed];
+    pub const ALL: [Kind; 5] = [
+        Kind::Sound,
+        Kind::Damaged,
+        Kind::Large,
+        Kind::Mixed,
+        Kind::Crowded,
+    ];
 
     pub fn word(self) -> &'static str {
         match self {
@@ -30,6 +39,7 @@ impl Kind {
             Kind::Damaged => "damaged",
             Kind::Large => "large",
             Kind::Mixed => "mixed",
+            Kind::Crowded => "crowded",
         }
     }
 }
@@ -41,6 +51,7 @@ pub fn policy(seed: u64, number: u64, kind: Kind) -> Vec<u8> {
         Kind::Sound => sound::policy(random).file(),
         Kind::Damaged => damaged::policy(random, number),
         Kind::Large => large::policy(random, number),
+        Kind::Crowded => crowded::policy(random, number),
         Kind::Mixed => match number % 8 {
             0..=3 => sound::policy(random).file(),
             4..=6 => damaged::policy(random, number),

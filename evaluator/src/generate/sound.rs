@@ -16,7 +16,16 @@ pub struct Plan {
     /// Most instances that one rule may have.
     pub instances: usize,
     pub short_names: bool,
+    /// Where the members' names begin in the index; anywhere if there is none.
+    pub crowd: Option<Crowd>,
     pub bounds: Bounds,
+}
+
+/// So many slots of the index from the first on, round past the end.
+#[derive(Clone, Copy)]
+pub struct Crowd {
+    pub first: usize,
+    pub slots: usize,
 }
 
 /// A file's lines without their LF, the E line last, and what they declare.
@@ -90,6 +99,7 @@ fn plan(random: &mut Random) -> Plan {
         grants: random.choose(&[0, 4, 8, 12, 20, 30]),
         instances: 5_000,
         short_names: false,
+        crowd: None,
         bounds: Bounds {
             operators: random.choose(&[0, 2, 4, 6, 8, 10, 12, 20, 40, 64]),
             sets: random.choose(&[1, 2, 3, 4, 5, 8, 14]),
@@ -160,10 +170,14 @@ pub fn name(random: &mut Random, taken: &[String], short: bool) -> String {
     }
 }
 
+/// The bytes of names, those that may begin one first.
+pub const NAME_BYTES: &[u8] = b"abcdefghijklmnopqrstuvwxyz0123456789_";
+const LETTERS: usize = 26;
+
 fn letters(random: &mut Random, bytes: usize) -> String {
-    let all = b"abcdefghijklmnopqrstuvwxyz0123456789_";
+    let choices = |at| if at == 0 { LETTERS } else { NAME_BYTES.len() };
     (0..bytes)
-        .map(|at| char::from(all[random.below(if at == 0 { 26 } else { all.len() })]))
+        .map(|at| char::from(NAME_BYTES[random.below(choices(at))]))
         .collect()
 }
 
@@ -176,10 +190,22 @@ fn names(random: &mut Random, count: usize, short: bool) -> Vec<String> {
     names
 }
 
+fn crowded_names(random: &mut Random, count: usize, crowd: Crowd) -> Vec<String> {
+    let mut names = Vec::new();
+    for _ in 0..count {
+        let name = crowd.name(random, &names);
+        names.push(name);
+    }
+    names
+}
+
 /// Forests of different shapes: flat, chains, trees.
 fn add_members(random: &mut Random, plan: &Plan, draft: &mut Draft) {
     for (sort, word) in SORT_WORDS.iter().enumerate() {
-        let names = names(random, plan.counts[sort], plan.short_names);
+        let names = match plan.crowd {
+            Some(crowd) => crowded_names(random, plan.counts[sort], crowd),
+            None => names(random, plan.counts[sort], plan.short_names),
+        };
         let (roots, chained) = (random.choose(&[5, 30, 70]), random.choose(&[10, 50, 90]));
         for (number, name) in names.iter().enumerate() {
             let parent = if number == 0 || random.percent(roots) {
