@@ -1,65 +1,28 @@
 -- The ways through the code that looks up a name. Assumes nothing.
-use mathlib.Core.Path.{_≡_, refl, sym, ap, subst, _∙_}
-use mathlib.Core.Bool.{Bool, true, false, _&&_, and-false}
-use mathlib.Core.List.{List, [], _∷_}
+use mathlib.Core.Path.{_≡_, refl, sym, ap, ap₂, subst, _∙_}
+use mathlib.Core.Bool.{Bool, true, false}
+use mathlib.Core.List.{List}
 use mathlib.Core.Option.{Option, none, some}
 use Prim.Native.Nat.{ℕ, zero, suc, _+_, _-_, _≤_, _<_}
 use native.Mathlib.Omega.{arith}
 use native.Mathlib.Numerals.{add-one}
-use lib.Dec.{eqb}
-use lib.ListN.{length, getD}
-use lib.Seq.{slice, slice-empty, slice-cons, length-slice}
+use lib.ListN.{length}
 use borrow.Author.Tests.{eq-eqb, ne-eqb}
 use Rattle.algebra.specs.Lists.{tabFrom}
 use Rattle.algebra.specs.Sort.{Sort, subject, object, action}
 use Rattle.algebra.specs.Stored.{storedSort}
 use Rattle.grammar.specs.Lookup.{same, positionFrom, position}
 use Rattle.grammar.specs.Names.{Kind, table, rule-set, member, predicate}
-use Rattle.names.specs.Entries.{Entry, entries, isTagged, isEntry, Group, Sound, sortNumber, memberBase, memberCount, spanOf, lookupIn, kindOf}
+use Rattle.algebra.proofs.Lists.{length-tabFrom}
+use Rattle.name_index.specs.Index.{search}
+use Rattle.name_index.specs.Parts.{nameAt, namesAt, Parts, slotsAt, Slots, putAt, foundOf, lookedOf, LooksUp}
+use Rattle.name_index.specs.declared.Lookup.{Lookup}
+use Rattle.name_index.proofs.Parts.{looked-up, indexed-slots}
+use Rattle.names.specs.Entries.{Entry, entryAt, entries, isTagged, isEntry, Group, Sound, sortNumber, memberBase, memberCount, memberNames, slotBase, spanOf, lookupIn, kindOf}
 use Rattle.names.specs.declared.NameKind.{NameKind}
 use Rattle.names.specs.declared.NameKind.the-variants.{Member, Predicate}
 use Rattle.names.specs.declared.NameCounts.{NameCounts}
 use Rattle.names.specs.declared.Span.{Span}
-
--- ---- two parts compared byte by byte
-same-short : (u v : List ℕ) → (length u ≡ length v → ⊥) → same u v ≡ false
-unfolding same
-same-short [] [] h = absurd (h refl)
-same-short [] (c ∷ cs) h = refl
-same-short (b ∷ bs) [] h = refl
-same-short (b ∷ bs) (c ∷ cs) h = rw (same-short bs cs (λ e. h (ap suc e))) (and-false (eqb b c))
-
-module _ (t : List ℕ) (from to : ℕ) (f : List ℕ) (start end : ℕ) where
-  -- the loop's invariant: what was compared so far is the same
-  pub record Comparing (i j : ℕ) : Type 0 where
-    pub before : i ≤ to
-    pub level : i + end ≡ j + to
-    pub left : same (slice from to t) (slice start end f) ≡ same (slice i to t) (slice j end f)
-
-  module _ (h : to ≤ length t) (k : end ≤ length f) where
-    pub same-lengths : (to - from ≡ end - start → ⊥) → false ≡ same (slice from to t) (slice start end f)
-    same-lengths ne = sym (same-short (slice from to t) (slice start end f) (λ e. ne (sym (length-slice from to t h) ∙ e ∙ length-slice start end f k)))
-
-    pub same-first : from ≤ to → start ≤ end → to - from ≡ end - start → Comparing from start
-    same-first a b e = record { before = a; level = omega arith; left = refl }
-
-    module _ {i j : ℕ} (x : Comparing i j) where
-      at-byte : i < to → same (slice from to t) (slice start end f) ≡ (eqb (getD t i 0) (getD f j 0) && same (slice (suc i) to t) (slice (suc j) end f))
-      unfolding same
-      at-byte a = x .left ∙ rw (slice-cons i to t 0 a h, slice-cons j end f 0 (omega (arith, x .level)) k)
-
-      pub same-differ : i < to → (getD t i 0 ≡ getD f j 0 → ⊥) → false ≡ same (slice from to t) (slice start end f)
-      same-differ a ne = sym (at-byte a ∙ rw (ne-eqb _ _ ne))
-
-      pub same-next : i < to → getD t i 0 ≡ getD f j 0 → Comparing (i + 1) (j + 1)
-      same-next a e = record { before = omega arith; level = omega (arith, x .level); left = at-byte a ∙ rw (eq-eqb _ _ e, add-one, add-one) }
-
-      pub same-end : to ≤ i → true ≡ same (slice from to t) (slice start end f)
-      unfolding same
-      same-end a =
-          let p : i ≡ to = omega (arith, x .before) in
-          let q : j ≡ end = omega (arith, x .level) in
-          sym (x .left ∙ rw (p, q, slice-empty to t, slice-empty end f))
 
 -- ---- an entry
 module _ (wanted : ℕ) (n : List ℕ) (e : Entry) where
@@ -156,6 +119,57 @@ module _ (f starts ends tags : List ℕ) (c : NameCounts) where
   pub looked : (k : Kind) (n : List ℕ) (g : Span) {o : Option ℕ} → g ≡ spanOf c k → o ≡ position (isEntry (g .wanted) n) (entries f starts ends tags (g .base) (g .count)) → o ≡ lookupIn f starts ends tags c k n
   unfolding lookupIn
   looked k n g e h = h ∙ ap (λ (x : Span). position (isEntry (x .wanted) n) (entries f starts ends tags (x .base) (x .count))) e
+
+-- ---- a member, by the index of its sort
+
+module _ {A B : Type 0} (p : A → Bool) (q : B → Bool) (e : ℕ → A) (g : ℕ → B) (h : (i : ℕ) → p (e i) ≡ q (g i)) where
+  from-tab : (k i n : ℕ) → positionFrom k p (tabFrom i n e) ≡ positionFrom k q (tabFrom i n g)
+  unfolding positionFrom
+  from-tab k i zero = refl
+  from-tab k i (suc n) = ap₂ (λ (b : Bool) (o : Option ℕ). elim b [ true ↦ some k | false ↦ o ]) (h i) (from-tab (suc k) (suc i) n)
+
+-- a walk along the names finds what a walk along the entries finds
+pub names-looked : (f starts ends tags : List ℕ) (c : NameCounts) (σ : Sort) (n : List ℕ) → position (same n) (memberNames f starts ends c σ) ≡ lookupIn f starts ends tags c (member σ) n
+unfolding lookupIn position isEntry isTagged
+names-looked f starts ends tags c σ n = sym (from-tab (isEntry 3 n) (same n) (entryAt f starts ends tags) (nameAt f starts ends) (λ i. refl) 0 (memberBase σ) (memberCount c σ))
+
+module _ (f starts ends tags : List ℕ) (c : NameCounts) (S : Sound f starts ends tags c) (σ : Sort) where
+  module _ (g : Span) (at : ℕ) (e : g ≡ spanOf c (member σ)) (a : at ≡ slotBase σ) where
+    pub member-parts : Parts f starts ends (g .base) (g .count)
+    member-parts =
+        let G : Group f starts ends tags (g .base) (g .count) = span-at f starts ends tags c S (member σ) g e in
+        record { in-starts = G .in-starts; in-ends = G .in-ends; ordered = G .ordered; in-file = G .in-file }
+
+    pub member-slots : Slots tags at (g .count)
+    member-slots =
+        let names : List (List ℕ) = memberNames f starts ends c σ in
+        let m : length names ≡ memberCount c σ = length-tabFrom (memberBase σ) (memberCount c σ) (nameAt f starts ends) in
+        rw (e, a) (rw m at (indexed-slots tags (slotBase σ) names (S .indexed σ)))
+
+    pub member-looked : (n : List ℕ) (r : Lookup) → lookedOf r ≡ search (slotsAt at tags) (namesAt f starts ends (g .base) (g .count)) n → LooksUp (memberNames f starts ends c σ) n r
+    member-looked n r h = looked-up tags (slotBase σ) (memberNames f starts ends c σ) (S .indexed σ) n r (h ∙ rw (e, a))
+
+pub member-found : (f starts ends tags : List ℕ) (c : NameCounts) (k : NameKind) {s : ℕ} → k ≡ Member s → (n : List ℕ) (r : Lookup)
+    → LooksUp (memberNames f starts ends c (storedSort s)) n r → foundOf (r .found) ≡ lookupIn f starts ends tags c (kindOf k) n
+member-found f starts ends tags c k {s} e n r h = h .walked ∙ names-looked f starts ends tags c (storedSort s) n ∙ rw e
+
+pub inserted : (slots n : List ℕ) (m at base : ℕ) (after : List ℕ) → after ≡ putAt at slots n m → at ≡ base → after ≡ putAt base slots n m
+inserted slots n m at base after e h = e ∙ rw h
+
+-- the slots of each sort lie behind the tags
+pub slots-within : (σ : Sort) → slotBase σ + 256 ≤ 960
+slots-within subject = omega arith
+slots-within object = omega arith
+slots-within action = omega arith
+
+pub slots-subject : (s : ℕ) → s ≡ 0 → 192 ≡ slotBase (storedSort s)
+slots-subject s z = rw (sort-zero s z)
+
+pub slots-object : (s : ℕ) → s ≡ 1 → 448 ≡ slotBase (storedSort s)
+slots-object s z = rw (sort-one s z)
+
+pub slots-action : (s : ℕ) → (s ≡ 0 → ⊥) → (s ≡ 1 → ⊥) → 704 ≡ slotBase (storedSort s)
+slots-action s y z = rw (sort-other s y z)
 
 pub span-predicate : (c : NameCounts) (k : NameKind) {s w : ℕ} → k ≡ Predicate s → w ≡ sortNumber (storedSort s)
     → _≡_ {A = Span} record { base = 144; count = c .predicates; wanted = w } (spanOf c (kindOf k))

@@ -1,7 +1,7 @@
 -- The names that the code holds: entries whose names are parts of a file, in six groups, and the number of a name within its group.
 use mathlib.Core.Bool.{Bool, _&&_, _||_}
 use mathlib.Core.List.{List}
-use mathlib.Core.Option.{Option, none, some}
+use mathlib.Core.Option.{Option}
 use Prim.Native.Nat.{ℕ, _+_, _≤_, _<_}
 use lib.Dec.{eqb, leb}
 use lib.ListN.{length, getD}
@@ -11,8 +11,8 @@ use Rattle.algebra.specs.Sort.{Sort, subject, object, action}
 use Rattle.algebra.specs.Stored.{storedSort}
 use Rattle.grammar.specs.Lookup.{same, positionFrom, position}
 use Rattle.grammar.specs.Names.{Kind, table, rule-set, member, predicate}
-use Rattle.names.specs.declared.Found.{Found}
-use Rattle.names.specs.declared.Found.the-variants.{At, Nothing}
+pub use Rattle.name_index.specs.Parts.{foundOf}
+use Rattle.name_index.specs.Parts.{namesAt, Indexed}
 use Rattle.names.specs.declared.NameKind.{NameKind}
 use Rattle.names.specs.declared.NameKind.the-variants.{Table, RuleSet, Member, Predicate}
 use Rattle.names.specs.declared.NameCounts.{NameCounts}
@@ -65,6 +65,16 @@ memberCount c subject = c .subjects
 memberCount c object = c .objects
 memberCount c action = c .actions
 
+-- the names of a sort's members
+abbrev pub memberNames : List ℕ → List ℕ → List ℕ → NameCounts → Sort → List (List ℕ)
+memberNames f starts ends c σ = namesAt f starts ends (memberBase σ) (memberCount c σ)
+
+-- the slots of the members' index stand behind the tags
+abbrev pub slotBase : Sort → ℕ
+slotBase subject = 192
+slotBase object = 448
+slotBase action = 704
+
 abbrev pub predicateBase : ℕ
 predicateBase = 144
 
@@ -76,6 +86,7 @@ setBase = 176
 
 pub record Sound (f starts ends tags : List ℕ) (c : NameCounts) : Type 0 where
   pub members : (σ : Sort) → Group f starts ends tags (memberBase σ) (memberCount c σ)
+  pub indexed : (σ : Sort) → Indexed tags (slotBase σ) (memberNames f starts ends c σ)
   pub predicates : Group f starts ends tags predicateBase (c .predicates)
   pub tables : Group f starts ends tags tableBase (c .tables)
   pub sets : Group f starts ends tags setBase (c .sets)
@@ -93,10 +104,6 @@ unfolding position positionFrom isEntry sortNumber
 lookupIn f starts ends tags c k n = position (isEntry (spanOf c k .wanted) n) (entries f starts ends tags (spanOf c k .base) (spanOf c k .count))
 
 -- ---- what the code's values say
-abbrev pub foundOf : Found → Option ℕ
-foundOf (At i) = some i
-foundOf Nothing = none
-
 abbrev pub kindOf : NameKind → Kind
 kindOf Table = table
 kindOf RuleSet = rule-set

@@ -1,19 +1,18 @@
 // Looking up a name in the entries that the code holds.
+use name_index::Found;
+use name_index::Lookup;
+use name_index::insert;
+use name_index::is_name;
 ghost use mathlib.Core.Path.{_≡_};
-ghost use Prim.Native.Nat.{_≤_};
+ghost use Prim.Native.Nat.{_≤_, _<_};
 ghost use lib.ListN.{length};
 ghost use lib.Seq.{slice};
 ghost use Rattle.algebra.specs.Stored.{storedSort};
-ghost use Rattle.grammar.specs.Lookup.{same, position};
-ghost use Rattle.names.specs.Entries.{sortNumber, entryAt, entries, isTagged, isEntry, Group, Sound, spanOf, lookupIn, foundOf, kindOf};
+ghost use Rattle.grammar.specs.Lookup.{position};
+ghost use Rattle.name_index.specs.Parts.{putAt, foundOf, LooksUp};
+ghost use Rattle.names.specs.Entries.{sortNumber, entryAt, entries, isTagged, isEntry, Group, Sound, memberNames, slotBase, spanOf, lookupIn, kindOf};
 
 // ---- looking up a name
-
-// The number of a name within its group.
-pub enum Found {
-    At(u8),
-    Nothing,
-}
 
 // What a name is asked for as, in the sort 0, 1 or 2.
 pub enum NameKind {
@@ -31,32 +30,6 @@ pub struct NameCounts {
     pub predicates: u8,
     pub tables: u8,
     pub sets: u8,
-}
-
-fn wide(x: u16) -> usize
-    ensures { λ r. ⌜ r ≡ x ⌝ }
-{
-    x as usize
-}
-
-// Whether the part of t from `from` up to `to` is the part of f from `start` up to `end`.
-fn is_same<'a>(t: &'a [u8], from: usize, to: usize, f: &'a [u8], start: usize, end: usize) -> bool
-    requires { ⌜ (from ≤ to) × (to ≤ length (now t)) × (start ≤ end) × (end ≤ length (now f)) ⌝ }
-    ensures { λ r. ⌜ r ≡ same (slice from to (now (t .entry))) (slice start end (now (f .entry))) ⌝ }
-{
-    if to - from != end - start {
-        return false;
-    }
-    let mut i = from;
-    let mut j = start;
-    while i < to {
-        if t[i] != f[j] {
-            return false;
-        }
-        i += 1;
-        j += 1;
-    }
-    true
 }
 
 // Whether an entry's tag is the one wanted; 3 asks for any.
@@ -87,7 +60,7 @@ fn is_entry<'a>(
     if !is_tagged(wanted, tags[k]) {
         return false;
     }
-    is_same(t, from, to, f, wide(starts[k]), wide(ends[k]))
+    is_name(f, starts, ends, k, t, from, to)
 }
 
 // The first entry of a group that has the tag wanted and the name that stands in t from `from` up to `to`.
@@ -176,6 +149,65 @@ fn group_of(counts: NameCounts, kind: NameKind) -> Span
     }
 }
 
+// ---- the members' index, whose slots stand behind the 192 tags
+
+const SUBJECT_SLOTS: usize = 192;
+
+const OBJECT_SLOTS: usize = 448;
+
+const ACTION_SLOTS: usize = 704;
+
+// Where the slots of a sort begin.
+fn slots_of(s: u8) -> usize
+    ensures { λ r. ⌜ r ≡ slotBase (storedSort s) ⌝ }
+{
+    if s == 0 {
+        return SUBJECT_SLOTS;
+    }
+    if s == 1 {
+        return OBJECT_SLOTS;
+    }
+    ACTION_SLOTS
+}
+
+// Puts in the name of member m of a sort, which stands in t from `from` up to `to`.
+pub fn insert_member(tags: &mut [u8; 960], s: u8, t: &[u8], from: usize, to: usize, m: u8)
+    requires { ⌜ (from ≤ to) × (to ≤ length (now t)) × (m < 255) × (length (now tags) ≡ 960) ⌝ }
+    ensures { λ _. ⌜ now (tags .exit) ≡ putAt (slotBase (storedSort s)) (now (tags .entry)) (slice from to (now (t .entry))) m ⌝ }
+{
+    insert(tags, slots_of(s), t, from, to, m);
+}
+
+// The member of a sort that has the name that stands in t from `from` up to `to`, and how many slots were read for it.
+pub fn look_member<'a>(
+    f: &'a [u8],
+    starts: &'a [u16],
+    ends: &'a [u16],
+    tags: &'a [u8],
+    counts: NameCounts,
+    s: u8,
+    t: &'a [u8],
+    from: usize,
+    to: usize,
+) -> Lookup
+    requires { ⌜ Sound (now f) (now starts) (now ends) (now tags) counts × (from ≤ to) × (to ≤ length (now t)) ⌝ }
+    ensures { λ r. ⌜ LooksUp (memberNames (now (f .entry)) (now (starts .entry)) (now (ends .entry)) counts (storedSort s)) (slice from to (now (t .entry))) r ⌝ }
+{
+    let g = group_of(counts, NameKind::Member(s));
+    name_index::find(
+        f,
+        starts,
+        ends,
+        g.base,
+        g.count,
+        tags,
+        slots_of(s),
+        t,
+        from,
+        to,
+    )
+}
+
 // The number of the name that stands in t from `from` up to `to`, as what it is asked for.
 pub fn look<'a>(
     f: &'a [u8],
@@ -191,6 +223,10 @@ pub fn look<'a>(
     requires { ⌜ Sound (now f) (now starts) (now ends) (now tags) counts × (from ≤ to) × (to ≤ length (now t)) ⌝ }
     ensures { λ r. ⌜ foundOf r ≡ lookupIn (now (f .entry)) (now (starts .entry)) (now (ends .entry)) (now (tags .entry)) counts (kindOf kind) (slice from to (now (t .entry))) ⌝ }
 {
+    if let NameKind::Member(s) = kind {
+        let l = look_member(f, starts, ends, tags, counts, s, t, from, to);
+        return l.found;
+    }
     let g = group_of(counts, kind);
     find(
         f,

@@ -9,6 +9,7 @@ use lines::text::Part;
 use lines::text::is_file;
 use lines::text::piece_end;
 use names::NameCounts;
+use names::insert_member;
 use rule_lines::first_rule;
 use rule_lines::is_body;
 use rule_lines::judge_body;
@@ -81,7 +82,7 @@ fn empty() -> State
         counts,
         starts: [0; 192],
         ends: [0; 192],
-        tags: [0; 192],
+        tags: [0; 960],
         marks: [0; 1024],
         rules: [rule; 64],
         many: 0,
@@ -325,6 +326,7 @@ pub fn read_policy(f: &[u8], w: &mut [u8]) -> Reading
                         st.starts[i] = name.from as u16;
                         st.ends[i] = name.to as u16;
                         st.tags[i] = tag;
+                        insert_member(&mut st.tags, s, f, name.from, name.to, m);
                         st.counts = more_members(n, s);
                         st.group = s;
                         continue;

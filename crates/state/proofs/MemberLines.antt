@@ -15,20 +15,23 @@ use Rattle.algebra.specs.Sort.{Sort, subject, object, action}
 use Rattle.algebra.specs.Stored.{storedSort}
 use Rattle.grammar.specs.Lookup.{found}
 use Rattle.grammar.specs.Names as Kinds
-use Rattle.names.specs.Entries.{memberBase, memberCount, lookupIn}
+use Rattle.grammar.proofs.Lookup.{found-none}
+use Rattle.name_index.specs.Parts.{putAt}
+use Rattle.names.specs.Entries.{memberBase, memberCount, slotBase, lookupIn}
 use Rattle.names.specs.declared.NameCounts.{NameCounts}
 use Rattle.reader.specs.Line.{Line, memberLine}
 use Rattle.reader.specs.Declarations.{Declared, count, parentOf, memberAt}
 use Rattle.reader.specs.Rows.{good, first, rows, isMember, isParent, declaredAlready, notDeclared}
 use Rattle.reader.specs.Expression.{lookup}
 use Rattle.reader.specs.File.{add}
+use Rattle.reader.proofs.Rows.{good-rows}
 use Rattle.lines.specs.Parsed.{textOf, Named}
 use Rattle.lines.specs.declared.text.Part.{Part}
 use Rattle.lines.specs.declared.line.Parsed.{Parsed}
 use Rattle.lines.specs.declared.line.Parsed.the-variants.{Bad, Root, Child, Predicate, Table, Grant, Rule, GrantBody, OrderBody, HasBody, Expression}
 use Rattle.lines.proofs.line.Parsed.{enum}
 use Rattle.state.specs.NameTables.{parentTag}
-use Rattle.state.specs.Standing.{Few, NamesStand, Stands, placedOf, moreMembers}
+use Rattle.state.specs.Standing.{Few, NamesStand, Stands, placedOf, slottedOf, memberPlacedOf, moreMembers}
 use Rattle.state.specs.Judged.{MemberJudged, Joined, Barring, NoMember, LineJoins}
 use Rattle.state.specs.declared.Joining.{Joining}
 use Rattle.state.specs.declared.Joining.the-variants.{Elsewhere, Barred, Joins}
@@ -117,11 +120,33 @@ no-member (Expression n t) h = tt
 
 -- ---- the state after it
 
--- the state with a member that is declared in it: the entry i of member m, the counts and the group
-changed-is : (st : State) (s from to tag m i : ℕ) (c : NameCounts) → m ≡ memberCount (st .counts) (storedSort s) → i ≡ memberBase (storedSort s) + m
-    → c ≡ moreMembers (st .counts) (storedSort s)
-    → placedOf st i from to tag c s ≡ placedOf st (memberBase (storedSort s) + memberCount (st .counts) (storedSort s)) from to tag (moreMembers (st .counts) (storedSort s)) s
-changed-is st s from to tag m i c em ei ec = rw (ec, ei, em)
+-- a sort has room for another number
+pub few-255 : (c : NameCounts) → Few c → (σ : Sort) → memberCount c σ < 255
+few-255 c few subject = omega (arith, few .subjects)
+few-255 c few object = omega (arith, few .objects)
+few-255 c few action = omega (arith, few .actions)
+
+-- the state that is changed where it stands: the entry i of member m, the counts, the group, and the slots
+abbrev changed : State → ℕ → ℕ → ℕ → ℕ → List ℕ → NameCounts → State
+changed st s i from to tags c =
+    record {
+      group = s;
+      counts = c;
+      starts = set (st .starts) i from;
+      ends = set (st .ends) i to;
+      tags = tags;
+      marks = st .marks;
+      rules = st .rules;
+      many = st .many;
+      sorts = st .sorts;
+      grants = st .grants;
+    }
+
+changed-is : (f : List ℕ) (st : State) (s from to tag m i : ℕ) (tags : List ℕ) (c : NameCounts) → m ≡ memberCount (st .counts) (storedSort s) → i ≡ memberBase (storedSort s) + m
+    → tags ≡ putAt (slotBase (storedSort s)) (set (st .tags) i tag) (slice from to f) m → c ≡ moreMembers (st .counts) (storedSort s)
+    → changed st s i from to tags c ≡ memberPlacedOf f st (storedSort s) from to tag s
+unfolding memberPlacedOf slottedOf placedOf
+changed-is f st s from to tag m i tags c em ei et ec = rw (et, ec, ei, em)
 
 module _ (f w : List ℕ) (st : State) (d : Declared) (S : Stands f w st d) (l : Parsed) (s : ℕ) (name : Part) (tag : ℕ) (J : Joined f d l s name tag) where
   abbrev line : Line
@@ -130,19 +155,19 @@ module _ (f w : List ℕ) (st : State) (d : Declared) (S : Stands f w st d) (l :
   counts-are : memberCount (st .counts) (storedSort s) ≡ count d (storedSort s)
   counts-are = sym (count-is f (st .starts) (st .ends) (st .tags) (st .counts) d (S .names) (storedSort s))
 
+  new-name : memberAt (d .members) (storedSort s) (textOf f name) ≡ none
+  unfolding declaredAlready
+  new-name = found-none (memberAt (d .members) (storedSort s) (textOf f name)) (good-rows d line (J .is-good) .row-5)
+
   early : st .group < 5
   early = let g = member-early d (storedSort s) (textOf f name) (J .parent) (J .is-good) in let k = S .is-group in omega arith
 
-  placed-so : ℕ → State
-  placed-so g = placedOf st (memberBase (storedSort s) + memberCount (st .counts) (storedSort s)) (name .from) (name .to) tag (moreMembers (st .counts) (storedSort s)) g
-
-  joined-stands : Stands f w (placed-so s) (add d line)
-  unfolding placed-so
+  joined-stands : Stands f w (memberPlacedOf f st (storedSort s) (name .from) (name .to) tag s) (add d line)
   joined-stands =
-      subst (λ (g : ℕ). Stands f w (placed-so g) (add d line)) (sort-group s (J .low))
-      (member-added f w st d S (storedSort s) (name .from) (name .to) tag (J .parent) (J .named .order) (J .named .fits) (J .tagged) (rw counts-are (J .room)) early)
+      subst (λ (g : ℕ). Stands f w (memberPlacedOf f st (storedSort s) (name .from) (name .to) tag g) (add d line)) (sort-group s (J .low))
+      (member-added f w st d S (storedSort s) (name .from) (name .to) tag (J .parent) (J .named .order) (J .named .fits) (J .tagged) (rw counts-are (J .room)) new-name early)
 
-  pub joined-here : (m i : ℕ) (c : NameCounts) → m ≡ memberCount (st .counts) (storedSort s) → i ≡ memberBase (storedSort s) + m → c ≡ moreMembers (st .counts) (storedSort s)
-      → Stands f w (placedOf st i (name .from) (name .to) tag c s) (add d line)
-  unfolding placed-so
-  joined-here m i c em ei ec = rw (changed-is st s (name .from) (name .to) tag m i c em ei ec) joined-stands
+  pub joined-here : (m i : ℕ) (tags : List ℕ) (c : NameCounts) → m ≡ memberCount (st .counts) (storedSort s) → i ≡ memberBase (storedSort s) + m
+      → tags ≡ putAt (slotBase (storedSort s)) (set (st .tags) i tag) (textOf f name) m → c ≡ moreMembers (st .counts) (storedSort s)
+      → Stands f w (changed st s i (name .from) (name .to) tags c) (add d line)
+  joined-here m i tags c em ei et ec = rw (changed-is f st s (name .from) (name .to) tag m i tags c em ei et ec) joined-stands
