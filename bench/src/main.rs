@@ -3,7 +3,13 @@
 //! taken by turns, so that the machine's other work meets all alike.
 //!
 //!   bench [TURNS] FILE..      (TURNS 5 unless given)
+//!
+//! Or two builds of the engine beside each other, each as a shared library:
+//!
+//!   bench builds BEFORE AFTER [TURNS] FILE..      (TURNS 25 unless given)
 
+mod builds;
+mod files;
 mod plain;
 
 use std::time::{Duration, Instant};
@@ -38,28 +44,25 @@ impl Timed {
     }
 }
 
-/// A file of 32,768 bytes or a little less with as many G lines as fit.
-fn many_grants() -> Vec<u8> {
-    let mut file = Vec::new();
-    for i in 0..16 {
-        file.extend(format!("S,s{i},-\nO,o{i},-\n").bytes());
+/// The files made for the benchmark, and those that are given.
+fn named(words: &[String]) -> Vec<(String, Vec<u8>)> {
+    let mut files = files::made();
+    for word in words {
+        let name = word.rsplit('/').next().unwrap_or(word).to_string();
+        files.push((name, std::fs::read(word).expect("a policy")));
     }
-    let mut lines: Vec<Vec<u8>> = file.split(|b| *b == b'\n').filter(|l| !l.is_empty()).map(<[u8]>::to_vec).collect();
-    lines.sort_by_key(|l| l[0] != b'S');
-    let mut file: Vec<u8> = lines.join(&b'\n');
-    file.extend(b"\nA,r,-\nT,t,here\n");
-    let end = b"E,0,t\n";
-    let mut i = 0;
-    loop {
-        let line = format!("G,t,s{},o{},r\n", i / 16 % 16, i % 16);
-        if file.len() + line.len() + end.len() > 32768 {
-            break;
+    files
+}
+
+/// The number of turns, where the word at this place is one; it is taken out.
+fn turns(words: &mut Vec<String>, at: usize, otherwise: u32) -> u32 {
+    match words.get(at).and_then(|word| word.parse().ok()) {
+        Some(turns) => {
+            words.remove(at);
+            turns
         }
-        file.extend(line.bytes());
-        i += 1;
+        None => otherwise,
     }
-    file.extend(end);
-    file
 }
 
 fn row(name: &str, what: &str, engine: &Timed, others: &[(&str, &Timed)]) {
@@ -72,24 +75,19 @@ fn row(name: &str, what: &str, engine: &Timed, others: &[(&str, &Timed)]) {
 
 fn main() {
     let mut words: Vec<String> = std::env::args().skip(1).collect();
-    let turns: u32 = match words.first().and_then(|w| w.parse().ok()) {
-        Some(turns) => {
-            words.remove(0);
-            turns
-        }
-        None => 5,
-    };
+    if words.first().is_some_and(|word| word == "builds") {
+        words.remove(0);
+        let turns = turns(&mut words, 2, 25);
+        return builds::compare(&words, turns);
+    }
+    let turns = turns(&mut words, 0, 5);
     let mut result = vec![0u8; snowdell::RESULT];
     let mut memory = vec![0u8; snowdell::MEMORY];
 
     println!("Times in microseconds, the least of {turns} turns; ratio = engine / other.\n");
     println!("| file | call | engine | evaluator | ratio |");
     println!("|---|---|---|---|---|");
-    let mut files = vec![("as many G lines as fit".to_string(), many_grants())];
-    for word in &words {
-        let name = word.rsplit('/').next().unwrap_or(word).to_string();
-        files.push((name, std::fs::read(word).expect("a policy")));
-    }
+    let files = named(&words);
     for (name, file) in &files {
         let (mut engine, mut other) = (Timed::new(), Timed::new());
         for _ in 0..turns {
