@@ -166,15 +166,18 @@ index-more names n = from-append (replicate 256 0) 0 names n ∙ ap (put (indexF
 -- the names before one of distinct names are not that one
 fresh : (names : List (List ℕ)) (n : List ℕ) (ns : List (List ℕ)) → Distinct (names ++ n ∷ ns) → Fresh names n
 fresh names n ns D m h e =
-    let q = D m (length names) (simp length-append (omega arith)) (simp length-append (omega arith)) (List·getD-append names (n ∷ ns) [] m h ∙ e ∙ sym (getD-append-seam names n ns [])) in
+    let q = D m (length names) (simp length-append (omega arith)) (simp length-append (omega arith))
+    (List·getD-append names (n ∷ ns) [] m h ∙ e ∙ sym (getD-append-seam names n ns [])) in
     omega arith
 
-from-indexes : (slots : List ℕ) (names ns : List (List ℕ)) → Indexes slots names → Distinct (names ++ ns) → length names + length ns ≤ 64 → Indexes (indexFrom slots (length names) ns) (names ++ ns)
+from-indexes : (slots : List ℕ) (names ns : List (List ℕ)) → Indexes slots names → Distinct (names ++ ns) → length names + length ns ≤ 64
+    → Indexes (indexFrom slots (length names) ns) (names ++ ns)
 unfolding indexFrom
 from-indexes slots names [] I D h = rw append-nil I
 from-indexes slots names (n ∷ ns) I D h =
     let e : (names ++ (n ∷ [])) ++ ns ≡ names ++ n ∷ ns = append-assoc names (n ∷ []) ns in
-    let r = from-indexes (put slots n (length names)) (names ++ (n ∷ [])) ns (put-indexes names n slots I (fresh names n ns D) (omega arith)) (rw e D) (omega (arith, last-length names n)) in
+    let r = from-indexes (put slots n (length names)) (names ++ (n ∷ [])) ns (put-indexes names n slots I (fresh names n ns D) (omega arith)) (rw e D)
+    (omega (arith, last-length names n)) in
     rw (last-length names n, e) at r
 
 pub indexes : (names : List (List ℕ)) → Distinct names → length names ≤ 64 → Indexes (index names) names

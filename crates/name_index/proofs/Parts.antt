@@ -46,7 +46,9 @@ module _ (at : ℕ) (slots : List ℕ) (n : List ℕ) (m : ℕ) where
 
   pub put-here : slotsAt at (putAt at slots n m) ≡ put (slotsAt at slots) n m
   unfolding putAt put
-  put-here = ap (take 256) (drop-set-add at slots (freeSlot (slotsAt at slots) n) (suc m)) ∙ take-set-lt 256 (drop at slots) (freeSlot (slotsAt at slots) n) (suc m) free-low
+  put-here =
+      ap (take 256) (drop-set-add at slots (freeSlot (slotsAt at slots) n) (suc m))
+      ∙ take-set-lt 256 (drop at slots) (freeSlot (slotsAt at slots) n) (suc m) free-low
 
   pub put-after : (b : ℕ) → at + 256 ≤ b → slotsAt b (putAt at slots n m) ≡ slotsAt b slots
   unfolding putAt
@@ -99,13 +101,18 @@ module _ (slots : List ℕ) (at : ℕ) (n : List ℕ) where
     pub freeing-found : k < 256 → getD slots (at + i) 0 ≡ 0 → i ≡ freeSlot (slotsAt at slots) n
     unfolding freeSlot
     freeing-found h e =
-        let q : freeFrom (slotsAt at slots) (slotOf n) 0 256 ≡ k = x .left ∙ rw (one-more h) (free-here (slotsAt at slots) (slotOf n) k (256 - suc k) (slot-is ∙ e)) in
+        let q : freeFrom (slotsAt at slots) (slotOf n) 0 256 ≡ k = x .left
+        ∙ rw (one-more h) (free-here (slotsAt at slots) (slotOf n) k (256 - suc k) (slot-is ∙ e)) in
         rw q (x .at-slot .here)
 
     pub freeing-next : k < 256 → (getD slots (at + i) 0 ≡ 0 → ⊥) → Freeing ((i + 1) % 256) (k + 1)
     freeing-next h e =
         let g : 0 < getD (slotsAt at slots) (after (slotOf n) k) 0 = rw slot-is (omega arith) in
-        record { at-slot = stands-next n (x .at-slot) h; left = x .left ∙ rw (one-more h, add-one) (free-further (slotsAt at slots) (slotOf n) k (256 - suc k) g) }
+        record {
+          at-slot =
+              stands-next n (x .at-slot) h;
+          left = x .left ∙ rw (one-more h, add-one) (free-further (slotsAt at slots) (slotOf n) k (256 - suc k) g);
+        }
 
     pub freeing-end : 256 ≤ k → i ≡ freeSlot (slotsAt at slots) n
     unfolding freeSlot freeFrom
@@ -144,14 +151,19 @@ module _ (f starts ends : List ℕ) (base count : ℕ) (slots : List ℕ) (at : 
       name-is : getD held m [] ≡ nameAt f starts ends (base + m)
       name-is = getD-tabFrom base count (nameAt f starts ends) m [] (omega (arith, slot-known S))
 
-      pub searching-hit : same n (nameAt f starts ends (base + m)) ≡ true → _≡_ {A = Searched} record { member = some m; read = k + 1 } (search (slotsAt at slots) held n)
-      searching-hit q = sym (x .left ∙ rw (one-left h, add-one) (search-hit (slotsAt at slots) held n (slotOf n) k (256 - suc k) m (read-slot ∙ e) (ap (same n) name-is ∙ q)))
+      pub searching-hit : same n (nameAt f starts ends (base + m)) ≡ true
+          → _≡_ {A = Searched} record { member = some m; read = k + 1 } (search (slotsAt at slots) held n)
+      searching-hit q =
+          sym (x .left ∙ rw (one-left h, add-one)
+          (search-hit (slotsAt at slots) held n (slotOf n) k (256 - suc k) m (read-slot ∙ e) (ap (same n) name-is ∙ q)))
 
       pub searching-next : same n (nameAt f starts ends (base + m)) ≡ false → Searching ((i + 1) % 256) (k + 1)
       searching-next q =
           record {
             at-slot = stands-next n (x .at-slot) h;
-            left = x .left ∙ rw (one-left h, add-one) (search-other (slotsAt at slots) held n (slotOf n) k (256 - suc k) m (read-slot ∙ e) (ap (same n) name-is ∙ q));
+            left =
+                x .left ∙ rw (one-left h, add-one)
+                (search-other (slotsAt at slots) held n (slotOf n) k (256 - suc k) m (read-slot ∙ e) (ap (same n) name-is ∙ q));
           }
 
     pub searching-end : 256 ≤ k → _≡_ {A = Searched} record { member = none; read = 256 } (search (slotsAt at slots) held n)
@@ -171,7 +183,8 @@ none-indexed k at h =
       within = omega arith;
       made =
           ext-getD 0 (slotsAt at free) (replicate 256 0) m
-          (λ i g. let low : i < 256 = omega arith in slots-at at free i low ∙ getD-replicate {A = ℕ} k (at + i) 0 0 (omega arith) ∙ sym (getD-replicate {A = ℕ} 256 i 0 0 low));
+          (λ i g. let low : i < 256 = omega arith in slots-at at free i low ∙ getD-replicate {A = ℕ} k (at + i) 0 0 (omega arith)
+          ∙ sym (getD-replicate {A = ℕ} 256 i 0 0 low));
       distinct = λ i j a b e. absurd (omega arith);
       few = omega arith;
     }
@@ -191,7 +204,9 @@ module _ (slots : List ℕ) (at : ℕ) (names : List (List ℕ)) (I : Indexed sl
         record {
           searched = as-defined;
           walked = ap (λ (s : Searched). s .member) as-defined ∙ lookup-finds names (I .distinct) (I .few) n;
-          few-read = let q : r .read ≡ lookUp names n .read = ap (λ (s : Searched). s .read) as-defined in omega (arith, lookup-reads names (I .distinct) (I .few) n);
+          few-read =
+              let q : r .read ≡ lookUp names n .read = ap (λ (s : Searched). s .read) as-defined in omega
+              (arith, lookup-reads names (I .distinct) (I .few) n);
         }
 
   pub indexed-slots : Slots slots at (length names)

@@ -18,7 +18,23 @@ use Rattle.name_index.specs.Index.{search}
 use Rattle.name_index.specs.Parts.{nameAt, namesAt, Parts, slotsAt, Slots, putAt, foundOf, lookedOf, LooksUp}
 use Rattle.name_index.specs.declared.Lookup.{Lookup}
 use Rattle.name_index.proofs.Parts.{looked-up, indexed-slots}
-use Rattle.names.specs.Entries.{Entry, entryAt, entries, isTagged, isEntry, Group, Sound, sortNumber, memberBase, memberCount, memberNames, slotBase, spanOf, lookupIn, kindOf}
+use Rattle.names.specs.Entries.{
+  Entry,
+  entryAt,
+  entries,
+  isTagged,
+  isEntry,
+  Group,
+  Sound,
+  sortNumber,
+  memberBase,
+  memberCount,
+  memberNames,
+  slotBase,
+  spanOf,
+  lookupIn,
+  kindOf,
+}
 use Rattle.names.specs.declared.NameKind.{NameKind}
 use Rattle.names.specs.declared.NameKind.the-variants.{Member, Predicate}
 use Rattle.names.specs.declared.NameCounts.{NameCounts}
@@ -129,9 +145,11 @@ module _ {A B : Type 0} (p : A → Bool) (q : B → Bool) (e : ℕ → A) (g : �
   from-tab k i (suc n) = ap₂ (λ (b : Bool) (o : Option ℕ). elim b [ true ↦ some k | false ↦ o ]) (h i) (from-tab (suc k) (suc i) n)
 
 -- a walk along the names finds what a walk along the entries finds
-pub names-looked : (f starts ends tags : List ℕ) (c : NameCounts) (σ : Sort) (n : List ℕ) → position (same n) (memberNames f starts ends c σ) ≡ lookupIn f starts ends tags c (member σ) n
+pub names-looked : (f starts ends tags : List ℕ) (c : NameCounts) (σ : Sort) (n : List ℕ)
+    → position (same n) (memberNames f starts ends c σ) ≡ lookupIn f starts ends tags c (member σ) n
 unfolding lookupIn position isEntry isTagged
-names-looked f starts ends tags c σ n = sym (from-tab (isEntry 3 n) (same n) (entryAt f starts ends tags) (nameAt f starts ends) (λ i. refl) 0 (memberBase σ) (memberCount c σ))
+names-looked f starts ends tags c σ n =
+    sym (from-tab (isEntry 3 n) (same n) (entryAt f starts ends tags) (nameAt f starts ends) (λ i. refl) 0 (memberBase σ) (memberCount c σ))
 
 module _ (f starts ends tags : List ℕ) (c : NameCounts) (S : Sound f starts ends tags c) (σ : Sort) where
   module _ (g : Span) (at : ℕ) (e : g ≡ spanOf c (member σ)) (a : at ≡ slotBase σ) where
@@ -146,7 +164,8 @@ module _ (f starts ends tags : List ℕ) (c : NameCounts) (S : Sound f starts en
         let m : length names ≡ memberCount c σ = length-tabFrom (memberBase σ) (memberCount c σ) (nameAt f starts ends) in
         rw (e, a) (rw m at (indexed-slots tags (slotBase σ) names (S .indexed σ)))
 
-    pub member-looked : (n : List ℕ) (r : Lookup) → lookedOf r ≡ search (slotsAt at tags) (namesAt f starts ends (g .base) (g .count)) n → LooksUp (memberNames f starts ends c σ) n r
+    pub member-looked : (n : List ℕ) (r : Lookup) → lookedOf r ≡ search (slotsAt at tags) (namesAt f starts ends (g .base) (g .count)) n
+        → LooksUp (memberNames f starts ends c σ) n r
     member-looked n r h = looked-up tags (slotBase σ) (memberNames f starts ends c σ) (S .indexed σ) n r (h ∙ rw (e, a))
 
 pub member-found : (f starts ends tags : List ℕ) (c : NameCounts) (k : NameKind) {s : ℕ} → k ≡ Member s → (n : List ℕ) (r : Lookup)

@@ -34,7 +34,8 @@ with-rule st i r many sorts =
       grants = st .grants;
     }
 
-module _ (f w : List ℕ) (st : State) (d : Declared) (S : Stands f w st d) (from to : ℕ) (order : from ≤ to) (in-file : to ≤ length f) (s o a : Spelled) (j : RuleAnswer)
+module _ (f w : List ℕ) (st : State) (d : Declared) (S : Stands f w st d) (from to : ℕ) (order : from ≤ to) (in-file : to ≤ length f)
+    (s o a : Spelled) (j : RuleAnswer)
     (J : RuleJudged d (slice from to f) s o a j) (F : RuleFits (st .counts) (st .many) j) (z : j .number ≡ 0) where
   -- a rule of a set that is there
   pub rule-known : j .fresh ≡ false → (i : ℕ) (r : StoredRule) → i ≡ st .many → r ≡ newRule (j .set) (j .head)

@@ -75,10 +75,25 @@ module _ (f : List ℕ) (d : Declared) (s : ℕ) (name : Part) (k : ℕ) (J : Me
         pub child-joins : s ≤ 2 → Named f name → k ≡ 0 → Joined f d (Child s name parent) s name (i + 1)
         child-joins low named e =
             let P = member-yes d σ (textOf f name) k J e in
-            record { parent = some p; is = refl; is-good = P .is-good (some p) is-there; tagged = tag-is ∙ sym (add-one i); room = P .room; low = low; named = named }
+            record {
+              parent =
+                  some p;
+              is = refl;
+              is-good = P .is-good (some p) is-there;
+              tagged = tag-is
+                  ∙ sym (add-one i);
+              room = P .room;
+              low = low;
+              named = named;
+            }
 
       pub parent-missing : k ≡ 0 → lookupIn f starts ends tags c (Kinds.member σ) p ≡ none → Barring f d (Child s name parent) 6
-      parent-missing e h = record { line = memberLine σ (textOf f name) (some p); is = refl; refused = member-yes d σ (textOf f name) k J e .no-6 (some p) (missing h) }
+      parent-missing e h =
+          record {
+            line = memberLine σ (textOf f name) (some p);
+            is = refl;
+            refused = member-yes d σ (textOf f name) k J e .no-6 (some p) (missing h);
+          }
 
   pub root-joins : s ≤ 2 → Named f name → k ≡ 0 → Joined f d (Root s name) s name 0
   unfolding notDeclared isParent parentTag parentOf
@@ -142,7 +157,8 @@ changed st s i from to tags c =
       grants = st .grants;
     }
 
-changed-is : (f : List ℕ) (st : State) (s from to tag m i : ℕ) (tags : List ℕ) (c : NameCounts) → m ≡ memberCount (st .counts) (storedSort s) → i ≡ memberBase (storedSort s) + m
+changed-is : (f : List ℕ) (st : State) (s from to tag m i : ℕ) (tags : List ℕ) (c : NameCounts) → m ≡ memberCount (st .counts) (storedSort s)
+    → i ≡ memberBase (storedSort s) + m
     → tags ≡ putAt (slotBase (storedSort s)) (set (st .tags) i tag) (slice from to f) m → c ≡ moreMembers (st .counts) (storedSort s)
     → changed st s i from to tags c ≡ memberPlacedOf f st (storedSort s) from to tag s
 unfolding memberPlacedOf slottedOf placedOf
@@ -165,7 +181,8 @@ module _ (f w : List ℕ) (st : State) (d : Declared) (S : Stands f w st d) (l :
   joined-stands : Stands f w (memberPlacedOf f st (storedSort s) (name .from) (name .to) tag s) (add d line)
   joined-stands =
       subst (λ (g : ℕ). Stands f w (memberPlacedOf f st (storedSort s) (name .from) (name .to) tag g) (add d line)) (sort-group s (J .low))
-      (member-added f w st d S (storedSort s) (name .from) (name .to) tag (J .parent) (J .named .order) (J .named .fits) (J .tagged) (rw counts-are (J .room)) new-name early)
+      (member-added f w st d S (storedSort s) (name .from) (name .to) tag (J .parent) (J .named .order) (J .named .fits) (J .tagged)
+      (rw counts-are (J .room)) new-name early)
 
   pub joined-here : (m i : ℕ) (tags : List ℕ) (c : NameCounts) → m ≡ memberCount (st .counts) (storedSort s) → i ≡ memberBase (storedSort s) + m
       → tags ≡ putAt (slotBase (storedSort s)) (set (st .tags) i tag) (textOf f name) m → c ≡ moreMembers (st .counts) (storedSort s)

@@ -23,7 +23,12 @@ add-s : tie.Need-add-s Inv-loop μ-loop
 add-s c = omega (arith, c .before .loop .inv .at-slot .here, c .before .before .before .before .before .before .before .before .pre .1 .within)
 
 shared-slice-read-s : tie.Need-shared-slice-read-s Inv-loop μ-loop
-shared-slice-read-s c = omega (arith, c .before .before .loop .inv .at-slot .here, c .before .before .before .before .before .before .before .before .before .pre .1 .within)
+shared-slice-read-s c =
+    omega (
+      arith,
+      c .before .before .loop .inv .at-slot .here,
+      c .before .before .before .before .before .before .before .before .before .pre .1 .within,
+    )
 
 add-t20 : tie.Need-add-t20 Inv-loop μ-loop
 add-t20 c = search needs
@@ -35,19 +40,44 @@ sub-m : tie.Need-sub-m Inv-loop μ-loop
 sub-m c = search needs
 
 cast-is-name : tie.Need-cast-is-name Inv-loop μ-loop
-cast-is-name c = omega (arith, c .before .shared-slice-known6 .given (c .before .before .before .before .before .before .before .before .before .before .args .at + c .before .before .before .loop .i))
+cast-is-name c =
+    omega (
+      arith,
+      c .before .shared-slice-known6 .given
+          (c .before .before .before .before .before .before .before .before .before .before .args .at + c .before .before .before .loop .i),
+    )
 
 add-is-name : tie.Need-add-is-name Inv-loop μ-loop
-add-is-name c = omega (arith, c .if1 .left, slot-known _ _ _ _ _ _ _ _ (c .before .before .before .loop .inv) (c .before .before .before .before .before .before .before .before .before .before .pre .1), c .before .before .before .before .before .before .before .before .before .before .pre .0 .in-starts)
+add-is-name c =
+    omega (
+      arith,
+      c .if1 .left,
+      slot-known _ _ _ _ _ _ _ _ (c .before .before .before .loop .inv)
+          (c .before .before .before .before .before .before .before .before .before .before .pre .1),
+      c .before .before .before .before .before .before .before .before .before .before .pre .0 .in-starts,
+    )
 
 is-name-requires : tie.Need-is-name-requires Inv-loop μ-loop
-is-name-requires c κs = (part-one _ _ _ _ _ _ (c .before .before .before .before .before .before .before .before .before .before .pre .0) (omega arith) (omega (arith, c .if1 .left, slot-known _ _ _ _ _ _ _ _ (c .before .before .before .loop .inv) (c .before .before .before .before .before .before .before .before .before .before .pre .1))), c .before .before .before .before .before .before .before .before .before .before .pre .2, c .before .before .before .before .before .before .before .before .before .before .pre .3)
+is-name-requires c κs = (
+  part-one _ _ _ _ _ _ (c .before .before .before .before .before .before .before .before .before .before .pre .0) (omega arith)
+      (omega (
+        arith,
+        c .if1 .left,
+        slot-known _ _ _ _ _ _ _ _ (c .before .before .before .loop .inv)
+            (c .before .before .before .before .before .before .before .before .before .before .pre .1),
+      )),
+  c .before .before .before .before .before .before .before .before .before .before .pre .2,
+  c .before .before .before .before .before .before .before .before .before .before .pre .3,
+)
 
 add-t24 : tie.Need-add-t24 Inv-loop μ-loop
 add-t24 c = search needs
 
 returns-2 : tie.Need-returns-2 Inv-loop μ-loop
-returns-2 c = searching-hit _ _ _ _ _ _ _ _ (c .before .before .before .before .before .loop .inv) (c .before .before .before .before .before .before .before .before .before .before .before .before .pre .1) (search needs) (omega (arith, c .before .before .if1 .left)) (sym (c .before .is-name .ensures) ∙ c .if2 .taken)
+returns-2 c =
+    searching-hit _ _ _ _ _ _ _ _ (c .before .before .before .before .before .loop .inv)
+    (c .before .before .before .before .before .before .before .before .before .before .before .before .pre .1) (search needs)
+    (omega (arith, c .before .before .if1 .left)) (sym (c .before .is-name .ensures) ∙ c .if2 .taken)
 
 add-i : tie.Need-add-i Inv-loop μ-loop
 add-i c = omega (arith, c .before .before .before .before .before .loop .inv .at-slot .here)
@@ -59,7 +89,10 @@ loop-less : tie.Need-loop-less Inv-loop μ-loop
 loop-less c = search needs
 
 loop-again : tie.Need-loop-again Inv-loop μ-loop
-loop-again c = searching-next _ _ _ _ _ _ _ _ (c .before .before .before .before .before .loop .inv) (c .before .before .before .before .before .before .before .before .before .before .before .before .pre .1) (search needs) (omega (arith, c .before .before .if1 .left)) (sym (c .before .is-name .ensures) ∙ c .if2 .left)
+loop-again c =
+    searching-next _ _ _ _ _ _ _ _ (c .before .before .before .before .before .loop .inv)
+    (c .before .before .before .before .before .before .before .before .before .before .before .before .pre .1) (search needs)
+    (omega (arith, c .before .before .if1 .left)) (sym (c .before .is-name .ensures) ∙ c .if2 .left)
 
 returns-3 : tie.Need-returns-3 Inv-loop μ-loop
 returns-3 c = searching-end _ _ _ _ _ _ _ _ (c .before .loop .inv) (search needs)

@@ -32,14 +32,19 @@ unfolding LineJoins
 returns-2 c d N g =
     let looked = c .before .before in
     let judged = looked .before .before in
-    parent-missing _ d _ _ _ (judged .judge-member .ensures d N g) _ _ _ _ _ N (looked .before .if1 .left) (sym (looked .look .ensures) ∙ ap foundOf (c .enum-told .given .1))
+    parent-missing _ d _ _ _ (judged .judge-member .ensures d N g) _ _ _ _ _ N (looked .before .if1 .left)
+    (sym (looked .look .ensures) ∙ ap foundOf (c .enum-told .given .1))
 
 add-t15 : tie.Need-add-t15
 add-t15 c =
     let looked = c .before .before .before in
     let start = looked .before .before .before .before .before .before .before in
     let σ = storedSort (start .args .s) in
-    omega (arith, member-small _ (start .pre .1) σ _ (found-lt _ _ _ _ _ (Kinds.member σ) _ _ (sym (looked .look .ensures) ∙ ap foundOf (c .before .q .given .1))))
+    omega (
+      arith,
+      member-small _ (start .pre .1) σ _
+          (found-lt _ _ _ _ _ (Kinds.member σ) _ _ (sym (looked .look .ensures) ∙ ap foundOf (c .before .q .given .1))),
+    )
 
 returns-3 : tie.Need-returns-3
 unfolding LineJoins
