@@ -49,6 +49,17 @@ fn of_last_slot(start: &str) -> Vec<String> {
     names
 }
 
+/// One member of each sort, the lines of a pattern with `#` for their number, and an expression.
+fn small(patterns: &[(usize, &str)]) -> Vec<u8> {
+    let mut file = "S,x,-\nO,y,-\nA,z,-\n".to_string();
+    for (count, pattern) in patterns {
+        for number in 0..*count {
+            file += &pattern.replace('#', &number.to_string());
+        }
+    }
+    (file + "E,0,t0\n").into_bytes()
+}
+
 /// The rows' names and files.
 pub fn made() -> Vec<(String, Vec<u8>)> {
     let few = |letter: &str| numbered(16, |n| format!("{letter}{n}"));
@@ -57,13 +68,19 @@ pub fn made() -> Vec<(String, Vec<u8>)> {
     let early = |letter: &str| numbered(64, |n| format!("{letter}{n:02}{}", "x".repeat(21)));
     let crowd = |letter: &str| of_last_slot(letter);
     let late_crowd = |letter: &str| of_last_slot(&format!("{letter}{}", "x".repeat(20)));
-    let file = |name: &str, of: &dyn Fn(&str) -> Vec<String>| (name.to_string(), grants(&of("u"), &of("v")));
+    let full = |name: &str, of: &dyn Fn(&str) -> Vec<String>| (name.to_string(), grants(&of("u"), &of("v")));
+    let one = |name: &str, patterns: &[(usize, &str)]| (name.to_string(), small(patterns));
+    let (table, head) = ((1, "T,t#,here\n"), "R,r,?0,?1,?2\n");
+    let rule = format!("{head}B,grant,?0,?1,?2\nB,eq,S,x,x\nB,le,O,?1,y\nB,grant,x,y,z\n");
     vec![
-        file("as many G lines as fit", &few),
-        file("64 × 64, short names", &short),
-        file("64 × 64, 24 bytes, the last differ", &late),
-        file("64 × 64, 24 bytes, the first differ", &early),
-        file("64 × 64, short names of one slot", &crowd),
-        file("64 × 64, 24 bytes of one slot, the last differ", &late_crowd),
+        full("as many G lines as fit", &few),
+        full("64 × 64, short names", &short),
+        full("64 × 64, 24 bytes, the last differ", &late),
+        full("64 × 64, 24 bytes, the first differ", &early),
+        full("64 × 64, short names of one slot", &crowd),
+        full("64 × 64, 24 bytes of one slot, the last differ", &late_crowd),
+        one("64 rules of four lines", &[table, (64, &rule)]),
+        one("64 rules without a body", &[table, (64, head)]),
+        one("16 predicates, tables and rule sets", &[(16, "P,S,p#,x\n"), (16, "T,t#,here\n"), (16, "R,r#,?0,?1,?2\n")]),
     ]
 }
