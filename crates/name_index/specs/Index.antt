@@ -1,4 +1,5 @@
--- The index of a sort's names: 256 slots. A slot is 0 where it is free, and a member's number and 1 where it is taken.
+-- The index of a sort's names. Document 02: "256 slots a sort, the slot from .. FNV-1a .., then the next free slot, round past the end".
+-- A slot is 0 where it is free, and a member's number and 1 where it is taken.
 use mathlib.Core.Path.{_≡_}
 use mathlib.Core.Bool.{true, false}
 use mathlib.Core.List.{List, [], _∷_}

@@ -55,7 +55,8 @@ foundOf Nothing = none
 abbrev pub lookedOf : Lookup → Searched
 lookedOf l = record { member = foundOf (l .found); read = l .read }
 
--- what a lookup of the name n among some names tells
+-- what a lookup of the name n among some names tells. Document 02: "A lookup finds the member if and only if a walk along the members
+-- would, and reads no more slots than there are members of the sort, plus one; its result carries that count, equal to the defined search's".
 pub record LooksUp (names : List (List ℕ)) (n : List ℕ) (r : Lookup) : Type 0 where
   -- the member and the count of the defined search
   pub searched : lookedOf r ≡ lookUp names n

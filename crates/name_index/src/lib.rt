@@ -85,7 +85,7 @@ pub fn is_name<'a>(
 
 // ---- FNV-1a
 
-// One byte more: the product keeps its low 32 bits.
+// One byte more: the product is taken modulo 2 to the 32.
 fn fnv_step(h: u32, b: u8) -> u32
     ensures { λ r. ⌜ r ≡ fnvStep h b ⌝ }
 {
@@ -108,7 +108,7 @@ fn slot_of(t: &[u8], from: usize, to: usize) -> usize
 
 // ---- the slots of a sort begin at `at`, its names at `base`
 
-// The member that has the name that stands in t from `from` up to `to`.
+// The member that has the name that stands in t from `from` up to `to`, and how many slots were read for it.
 pub fn find<'a>(
     f: &'a [u8],
     starts: &'a [u16],

@@ -168,7 +168,9 @@ fn put_grant(w: &mut [u8], i: usize, g: u16)
 
 // ---- the whole file
 
-// The grants go to the lent memory, two bytes each; the bytes after them are unchanged, on a refusal too.
+// Each line is judged on parts of the state, and what it adds is written where the state stands, so that no line copies all of it but T
+// lines and the first of a predicate or a rule set. The grants go to the lent memory, two bytes each; the bytes after them are
+// unchanged, on a refusal too.
 pub fn read_policy(f: &[u8], w: &mut [u8]) -> Reading
     requires { ⌜ length (now w) ≡ 8192 ⌝ }
     ensures { λ r. ⌜ ReadAs (now (f .entry)) (now (w .exit)) r ⌝ }
@@ -255,6 +257,7 @@ pub fn read_policy(f: &[u8], w: &mut [u8]) -> Reading
                 st.group = 7;
                 continue;
             }
+            // R: the first rule of a set declares it.
             Parsed::Rule(set, s, o, a) => {
                 let n = st.counts;
                 let many = st.many;
@@ -307,6 +310,7 @@ pub fn read_policy(f: &[u8], w: &mut [u8]) -> Reading
                 st = next.state;
                 continue;
             }
+            // S, O, A, B, or of wrong form.
             _ => {
                 let n = st.counts;
                 let j = judge_joining(f, &st.starts, &st.ends, &st.tags, n, st.group, l);
@@ -320,6 +324,7 @@ pub fn read_policy(f: &[u8], w: &mut [u8]) -> Reading
                             goal,
                         };
                     }
+                    // The next entry of the sort, and its slot in the index.
                     Joining::Joins(s, name, tag) => {
                         let m = members(n, s);
                         let i = member_entry(s, m);
@@ -341,6 +346,7 @@ pub fn read_policy(f: &[u8], w: &mut [u8]) -> Reading
                                 goal,
                             };
                         }
+                        // B: one atom more for the last rule.
                         let many = st.many;
                         let i = last_at(many);
                         let last = st.rules[i];
