@@ -9,7 +9,7 @@ use native.Mathlib.Numerals.{add-one}
 use lib.ListN.{length, getD, set, take, drop, replicate, length-replicate, getD-replicate, length-set, length-take, length-drop}
 use lib.Seq.{getD-take, getD-drop, getD-set-other, take-set-lt, take-set-le, drop-set-add, drop-set-lt, ext-getD}
 use Rattle.algebra.proofs.Lists.{getD-tabFrom}
-use Rattle.grammar.specs.Lookup.{same, position}
+use Rattle.grammar.specs.Lookup.{same}
 use Rattle.name_index.specs.Hash.{slotOf}
 use Rattle.name_index.specs.Index.{after, Searched, searchFrom, search, freeFrom, freeSlot, put, indexFrom, index, lookUp, Indexes}
 use Rattle.name_index.specs.Parts.{nameAt, namesAt, Parts, slotsAt, Slots, Indexed, putAt, lookedOf, LooksUp}

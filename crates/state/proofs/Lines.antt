@@ -2,39 +2,32 @@
 use mathlib.Core.Path.{_≡_, refl, sym, ap, ap₂, _∙_, subst}
 use mathlib.Core.Bool.{Bool, true, false, cond, _||_, false≢true}
 use mathlib.Core.List.{List, []}
-use mathlib.Core.Option.{Option, none, some}
-use Prim.Native.Nat.{ℕ, suc, _+_, _*_, _≤_, _<_}
+use mathlib.Core.Option.{Option, none}
+use Prim.Native.Nat.{ℕ, _+_, _*_, _≤_, _<_}
 use native.Mathlib.Omega.{arith}
-use lib.ListN.{length, getD, length-set, List·getD-map}
+use lib.ListN.{length, getD, List·getD-map}
 use lib.Seq.{slice}
 use Rattle.algebra.specs.Sort.{Sort, subject, object, action}
 use Rattle.algebra.specs.Stored.{storedSort}
 use Rattle.algebra.proofs.Lists.{getD-tabFrom}
-use Rattle.grammar.specs.Names as Kinds
 use lib.Dec.{ltb}
 use borrow.Author.Tests.{ltb-false}
-use Rattle.grammar.specs.Lookup.{found}
-use Rattle.name_index.specs.Parts.{putAt}
-use Rattle.names.specs.Entries.{Entry, entryAt, memberBase, memberCount, slotBase, tableBase, lookupIn}
+use Rattle.names.specs.Entries.{Entry, entryAt, memberBase, memberCount, tableBase}
 use Rattle.names.specs.declared.NameCounts.{NameCounts}
 use Rattle.reader.specs.Line.{Line, memberLine, tableLine}
-use Rattle.reader.specs.Declarations.{Declared, noTable, count, groupOf, parentOf, memberAt}
-use Rattle.reader.specs.Rows.{good, refuse, first, rows, most, isMember, isParent, declaredAlready, notDeclared, outOfOrder, badCounts}
-use Rattle.reader.specs.Expression.{lookup}
-use Rattle.reader.specs.File.{add}
-use Rattle.state.specs.NameTables.{parentTag, tableEntry, Names}
-use Rattle.grammar.proofs.Lookup.{found-none}
+use Rattle.reader.specs.Declarations.{Declared, noTable, count, groupOf}
+use Rattle.reader.specs.Rows.{good, refuse, first, rows, most, notDeclared, outOfOrder, badCounts}
+use Rattle.state.specs.NameTables.{tableEntry, Names}
 use Rattle.reader.proofs.Members.{sort-low}
 use Rattle.reader.proofs.Rows.{rows-number, good-rows}
 use Rattle.state.proofs.NameTables.{lookup-is, count-is, predicates-are, tables-are, sets-are}
-use Rattle.state.specs.Standing.{flag, Few, NamesStand, Sizes, Stands, placedOf, slottedOf, memberPlacedOf, moreMembers, moreTables}
+use Rattle.state.specs.Standing.{flag, Few, NamesStand, Stands, placedOf, moreMembers, moreTables}
 use Rattle.state.specs.Judged.{badCountsOf, MemberJudged, member-refused, member-passes, TableJudged, table-refused, table-passes, LineJudged, line-good}
 use Rattle.state.specs.declared.State.{State}
 use Rattle.names.proofs.Lookup.{sort-zero, sort-one, sort-other}
-use Rattle.state.proofs.Names.{sort-group}
 use Rattle.state.proofs.Verdicts.{counts-are as counts-are-of}
 use Rattle.state.proofs.Found.{few-accesses}
-use Rattle.state.proofs.Adding.{member-added, table-added}
+use Rattle.state.proofs.Adding.{table-added}
 
 -- ---- the arrays are enough to look names up
 

@@ -2,12 +2,12 @@
 use mathlib.Core.Path.{_≡_, refl, sym, _∙_, subst}
 use mathlib.Core.Bool.{true, false}
 use mathlib.Core.List.{List, [], _∷_}
-use mathlib.Core.Option.{Option, none, some}
+use mathlib.Core.Option.{none, some}
 use Prim.{tt}
 use Prim.Native.Nat.{ℕ, suc, _+_, _≤_, _<_}
 use native.Mathlib.Omega.{arith}
 use native.Mathlib.Numerals.{add-one}
-use lib.ListN.{length, set}
+use lib.ListN.{set}
 use lib.Seq.{slice}
 use types.Run.{OneOf, miss}
 use denote.Enum.Declared.{tagOf, declared}
@@ -21,7 +21,7 @@ use Rattle.names.specs.Entries.{memberBase, memberCount, slotBase, lookupIn}
 use Rattle.names.specs.declared.NameCounts.{NameCounts}
 use Rattle.reader.specs.Line.{Line, memberLine}
 use Rattle.reader.specs.Declarations.{Declared, count, parentOf, memberAt}
-use Rattle.reader.specs.Rows.{good, first, rows, isMember, isParent, declaredAlready, notDeclared}
+use Rattle.reader.specs.Rows.{isMember, isParent, declaredAlready, notDeclared}
 use Rattle.reader.specs.Expression.{lookup}
 use Rattle.reader.specs.File.{add}
 use Rattle.reader.proofs.Rows.{good-rows}
