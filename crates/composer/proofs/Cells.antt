@@ -53,7 +53,17 @@ module _ (c : Cell) where
   pub cell-closure : 7 ≤ c .kind → cellOf c ≡ closure-step (c .number)
   unfolding cellOf
   cell-closure h =
-      rw (ne-eqb (c .kind) 0 (λ e. omega arith), ne-eqb (c .kind) 1 (λ e. omega arith), ne-eqb (c .kind) 2 (λ e. omega arith), ne-eqb (c .kind) 3 (λ e. omega arith), ne-eqb (c .kind) 4 (λ e. omega arith), ne-eqb (c .kind) 5 (λ e. omega arith), ne-eqb (c .kind) 6 (λ e. omega arith), cellOf)
+      rw (
+        ne-eqb (c .kind) 0 (λ e. omega arith),
+        ne-eqb (c .kind) 1 (λ e. omega arith),
+        ne-eqb (c .kind) 2 (λ e. omega arith),
+        ne-eqb (c .kind) 3
+            (λ e. omega arith),
+        ne-eqb (c .kind) 4 (λ e. omega arith),
+        ne-eqb (c .kind) 5 (λ e. omega arith),
+        ne-eqb (c .kind) 6 (λ e. omega arith),
+        cellOf,
+      )
 
 -- ---- heights
 

@@ -15,7 +15,8 @@ use Rattle.sets.proofs.Bytes.{put-tab-low, put-tab-at}
 use Rattle.composer.specs.Compose.{Listed}
 
 module _ (s o a marks t₀ t₁ t₂ t₃ t : List ℕ) (fs : Filled 0 (parentsOf s) t₀ t₁) (fo : Filled 1 (parentsOf o) t₁ t₂) (fa : Filled 2 (parentsOf a) t₂ t₃)
-    (q : t ≡ put 12288 (tab 1024 (λ i. getD marks i 0)) t₃) (long : length t₃ ≡ 16384) (few-s : length s ≤ 64) (few-o : length o ≤ 64) (few-a : length a ≤ 64) where
+    (q : t ≡ put 12288 (tab 1024 (λ i. getD marks i 0)) t₃) (long : length t₃ ≡ 16384) (few-s : length s ≤ 64) (few-o : length o ≤ 64)
+    (few-a : length a ≤ 64) where
   size : (l : List ℕ) → length (parentsOf l) ≡ length l
   size l = length-map l parentOf
 
@@ -42,9 +43,12 @@ module _ (s o a marks t₀ t₁ t₂ t₃ t : List ℕ) (fs : Filled 0 (parentsO
   is-stored fr n li cnt = record { counts = cnt; orders = orders; marks = marked }
     where
       orders : (σ : Sort) (x y : ℕ) → x < members fr σ → y < members fr σ → getD t (orderAt σ + x * 64 + y) 0 ≡ orderByte (parents fr σ) x y
-      orders subject x y = subst (λ ps. x < length ps → y < length ps → getD t (0 + x * 64 + y) 0 ≡ orderByte ps x y) (sym (li .same-subjects)) (order-subject x y)
-      orders object x y = subst (λ ps. x < length ps → y < length ps → getD t (4096 + x * 64 + y) 0 ≡ orderByte ps x y) (sym (li .same-objects)) (order-object x y)
-      orders action x y = subst (λ ps. x < length ps → y < length ps → getD t (8192 + x * 64 + y) 0 ≡ orderByte ps x y) (sym (li .same-actions)) (order-action x y)
+      orders subject x y =
+          subst (λ ps. x < length ps → y < length ps → getD t (0 + x * 64 + y) 0 ≡ orderByte ps x y) (sym (li .same-subjects)) (order-subject x y)
+      orders object x y =
+          subst (λ ps. x < length ps → y < length ps → getD t (4096 + x * 64 + y) 0 ≡ orderByte ps x y) (sym (li .same-objects)) (order-object x y)
+      orders action x y =
+          subst (λ ps. x < length ps → y < length ps → getD t (8192 + x * 64 + y) 0 ≡ orderByte ps x y) (sym (li .same-actions)) (order-action x y)
 
       few : (σ : Sort) → members fr σ ≤ 64
       few subject = omega (arith, ap length (li .same-subjects), size s)

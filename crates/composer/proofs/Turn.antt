@@ -26,7 +26,8 @@ use Rattle.sets.specs.Sets.{answerAt, setAt, putSet, Answers, operation, replac
 use Rattle.algebra.specs.Grants.{grantsOf}
 use Rattle.sets.proofs.Bytes.{put-high, part-put}
 use Rattle.sets.proofs.Sets.{answerOf-byte, putSet-high}
-use Rattle.sets.proofs.Stack.{stack-answers, length-shut, step-table, step-plus, step-both, step-minus, step-override, step-scope, step-closure, here-answers, away-answers}
+use Rattle.sets.proofs.Stack.{stack-answers, length-shut, step-table, step-plus, step-both, step-minus, step-override, step-scope, step-closure, here-answers}
+use Rattle.sets.proofs.Stack.{away-answers}
 use Rattle.closure.specs.Closed.{answersOf, ClosedTo}
 use Rattle.words.specs.Cells.{cellOf}
 use Rattle.words.specs.declared.Cell.{Cell}
@@ -51,7 +52,8 @@ shut-at : (N : ℕ) (G : List Clause) (lim : ℕ) (a : Ran) (x : ℕ) → x < N 
 unfolding shut close
 shut-at N G lim a x h =
     let F = permits N (valueAt (a .values)) in
-    getD-map-lt (grade (decided N G lim (valueAt (a .values)))) (iter N G (used N G lim F) F) x false deny (omega (arith, length-iter N G (used N G lim F) F (length-permits N (valueAt (a .values)))))
+    getD-map-lt (grade (decided N G lim (valueAt (a .values)))) (iter N G (used N G lim F) F) x false deny
+    (omega (arith, length-iter N G (used N G lim F) F (length-permits N (valueAt (a .values)))))
 
 shut-bytes : (N : ℕ) (G : List Clause) (lim : ℕ) (a : Ran) → tab N (λ x. byte (close N G lim (valueAt (a .values)) x)) ≡ map byte (shut N G lim a .values)
 shut-bytes N G lim a =
@@ -62,7 +64,8 @@ shut-bytes N G lim a =
     getD-tab N (λ x. byte (close N G lim (valueAt (a .values)) x)) x 0 b ∙ ap byte (sym (shut-at N G lim a x b)) ∙ sym (List·getD-map byte u x deny))
 
 -- the bytes of the top set stand for its answers
-top-answers : {n : ℕ} {w : List ℕ} {v : List Answer} {st : List (List Answer)} (k : ℕ) → k ≡ length st → Stack n w (v ∷ st) → answersOf (setAt k n w) ≡ valueAt v
+top-answers : {n : ℕ} {w : List ℕ} {v : List Answer} {st : List (List Answer)} (k : ℕ) → k ≡ length st → Stack n w (v ∷ st)
+    → answersOf (setAt k n w) ≡ valueAt v
 top-answers {n} {w} k e (set-on {v = v} {st = st} l q s) =
     fun-ext (λ x. ap (λ l. answerOf (getD l x 0)) (ap (λ k. setAt k n w) e ∙ q) ∙ ap answerOf (List·getD-map byte v x deny) ∙ answerOf-byte (valueAt v x))
 
@@ -122,15 +125,17 @@ module _ (P : Policy) where
 
 -- ---- the kinds of a cell
 
-module _ (P : Policy) (n : Counts) (size : ℕ) (w w′ t : List ℕ) (c : Cell) (here : List ℕ) (grants : ℕ) (rules : List StoredRule) (many limit height : ℕ) (st : List Ran)
-    (s : Steps P n w t c here grants rules many limit height st) (long : 65536 ≤ length w) (few : size ≤ 4096) (is-size : size ≡ accesses (P .frame)) where
+module _ (P : Policy) (n : Counts) (size : ℕ) (w w′ t : List ℕ) (c : Cell) (here : List ℕ) (grants : ℕ) (rules : List StoredRule) (many limit height : ℕ)
+    (st : List Ran) (s : Steps P n w t c here grants rules many limit height st) (long : 65536 ≤ length w) (few : size ≤ 4096)
+    (is-size : size ≡ accesses (P .frame)) where
   abbrev N : ℕ
   N = accesses (P .frame)
 
   abbrev go-on : Step Scope → List Ran
   go-on i = one (model (P .frame)) (P .limit) (tableAnswer (P .tables)) i st
 
-  is-step : (i : Step Scope) → cellOf c ≡ i → (r : ℕ) → Stack N w′ (valuesOf (go-on i)) → roundsOf (go-on i) ≡ roundsOf st + r → ((i : ℕ) → 57344 ≤ i → getD w′ i 0 ≡ getD w i 0) → Stepped P c st w r w′
+  is-step : (i : Step Scope) → cellOf c ≡ i → (r : ℕ) → Stack N w′ (valuesOf (go-on i)) → roundsOf (go-on i) ≡ roundsOf st + r
+      → ((i : ℕ) → 57344 ≤ i → getD w′ i 0 ≡ getD w i 0) → Stepped P c st w r w′
   is-step i e r a b d = record { stack = rw e a; all = rw e b; beyond = d }
 
   -- an operation on set k
@@ -157,7 +162,8 @@ module _ (P : Policy) (n : Counts) (size : ℕ) (w w′ t : List ℕ) (c : Cell)
   pub stepped-table : c .kind ≡ 0 → height < 14 → w′ ≡ putSet height size (tableAnswer (P .tables) (c .number)) w → Stepped P c st w 0 w′
   stepped-table e h q =
       is-step (table-step (c .number)) (cell-table c e) 0
-      (step-table (model (P .frame)) (P .limit) (tableAnswer (P .tables)) w w′ height few′ (fits height h _ q) (c .number) st (s .on-stack) (sized height h _ q) (s .stack))
+      (step-table (model (P .frame)) (P .limit) (tableAnswer (P .tables)) w w′ height few′ (fits height h _ q) (c .number) st (s .on-stack)
+      (sized height h _ q) (s .stack))
       (rounds-table P (c .number) st) (beyond-set height h _ q)
 
   pub stepped-two : (k : ℕ) → k + 2 ≡ height → (c .kind ≡ 0 → ⊥) → c .kind < 4 → height ≤ 14
@@ -171,17 +177,20 @@ module _ (P : Policy) (n : Counts) (size : ℕ) (w w′ t : List ℕ) (c : Cell)
       go (yes e) d =
           let q′ = at 0 (omega arith) in
           is-step plus-step (cell-plus c e) 0
-          (step-plus (model (P .frame)) (P .limit) (tableAnswer (P .tables)) w w′ k few′ (fits k (omega arith) _ q′) st (omega (arith, s .on-stack)) (sized k (omega arith) _ q′) (s .stack))
+          (step-plus (model (P .frame)) (P .limit) (tableAnswer (P .tables)) w w′ k few′ (fits k (omega arith) _ q′) st (omega (arith, s .on-stack))
+          (sized k (omega arith) _ q′) (s .stack))
           (rounds-plus P st (omega (arith, s .on-stack))) (beyond-set k (omega arith) _ q′)
       go (no p) (yes e) =
           let q′ = at 1 (omega arith) in
           is-step both-step (cell-both c e) 0
-          (step-both (model (P .frame)) (P .limit) (tableAnswer (P .tables)) w w′ k few′ (fits k (omega arith) _ q′) st (omega (arith, s .on-stack)) (sized k (omega arith) _ q′) (s .stack))
+          (step-both (model (P .frame)) (P .limit) (tableAnswer (P .tables)) w w′ k few′ (fits k (omega arith) _ q′) st (omega (arith, s .on-stack))
+          (sized k (omega arith) _ q′) (s .stack))
           (rounds-both P st (omega (arith, s .on-stack))) (beyond-set k (omega arith) _ q′)
       go (no p) (no r) =
           let q′ = at 2 (omega arith) in
           is-step minus-step (cell-minus c (omega arith)) 0
-          (step-minus (model (P .frame)) (P .limit) (tableAnswer (P .tables)) w w′ k few′ (fits k (omega arith) _ q′) st (omega (arith, s .on-stack)) (sized k (omega arith) _ q′) (s .stack))
+          (step-minus (model (P .frame)) (P .limit) (tableAnswer (P .tables)) w w′ k few′ (fits k (omega arith) _ q′) st (omega (arith, s .on-stack))
+          (sized k (omega arith) _ q′) (s .stack))
           (rounds-minus P st (omega (arith, s .on-stack))) (beyond-set k (omega arith) _ q′)
 
   pub stepped-override : (k : ℕ) → k + 3 ≡ height → c .kind ≡ 4 → height ≤ 14
@@ -196,7 +205,8 @@ module _ (P : Policy) (n : Counts) (size : ℕ) (w w′ t : List ℕ) (c : Cell)
       → w′ ≡ putSet k N (λ x. keep (inScope (P .frame) sc x) (answerAt k w x)) w → Stepped P c st w 0 w′
   stepped-scope k e sc kind h q =
       let room : k < 14 = omega arith in
-      let q′ : w′ ≡ putSet k size (λ x. keep (inScope (P .frame) sc x) (answerAt k w x)) w = q ∙ ap (λ m. putSet k m (λ x. keep (inScope (P .frame) sc x) (answerAt k w x)) w) (sym is-size) in
+      let q′ : w′ ≡ putSet k size (λ x. keep (inScope (P .frame) sc x) (answerAt k w x)) w = q
+      ∙ ap (λ m. putSet k m (λ x. keep (inScope (P .frame) sc x) (answerAt k w x)) w) (sym is-size) in
       is-step (scope-step sc) kind 0
       (step-scope (model (P .frame)) (P .limit) (tableAnswer (P .tables)) w w′ k few′ (fits k room _ q′) sc st (e ∙ s .on-stack) q (s .stack))
       (rounds-scope P sc st (omega (arith, s .on-stack))) (beyond-set k room _ q′)
@@ -220,7 +230,8 @@ module _ (P : Policy) (w w′ : List ℕ) (c : Cell) (long : 65536 ≤ length w)
       let u : r ≡ used M G (P .limit) (permits M (valueAt (a .values))) = cl .all ∙ ap (λ f. used M G (P .limit) (permits M f)) v in
       let l : length bs ≡ M = length-map (shut M G (P .limit) a .values) byte ∙ length-shut M G (P .limit) a in
       record {
-        stack = rw (cell-closure c kind) (step-closure (model (P .frame)) (P .limit) (tableAnswer (P .tables)) w w′ k few (omega arith) (c .number) a st k-is q s);
+        stack = rw (cell-closure c kind) (step-closure (model (P .frame)) (P .limit) (tableAnswer (P .tables)) w w′ k few (omega arith) (c .number) a st
+            k-is q s);
         all = rw (cell-closure c kind) (omega (arith, u));
         beyond = λ i h. ap (λ z. getD z i 0) q ∙ put-high (k * 4096) bs w (omega arith) i (omega arith);
       }

@@ -29,7 +29,8 @@ use Rattle.composer.specs.Turn.{roundsOf, Held, Steps, Stepped}
 -- ---- the stack after the first steps of a program
 
 module _ (M : Model Scope) (lim : ℕ) (T : ℕ → ℕ → Answer) where
-  exec-next : (is : List (Step Scope)) (st : List Ran) (j : ℕ) (d : Step Scope) → j < length is → exec M lim T (take (suc j) is) st ≡ one M lim T (getD is j d) (exec M lim T (take j is) st)
+  exec-next : (is : List (Step Scope)) (st : List Ran) (j : ℕ) (d : Step Scope) → j < length is
+      → exec M lim T (take (suc j) is) st ≡ one M lim T (getD is j d) (exec M lim T (take j is) st)
   unfolding exec
   exec-next is st j d h = ap (λ js. exec M lim T js st) (take-suc is j d h) ∙ exec-append M lim T (take j is) (getD is j d ∷ []) st
 
@@ -37,7 +38,8 @@ unfoldable pub stackAt : Policy → ℕ → List Ran
 stackAt P j = exec (model (P .frame)) (P .limit) (tableAnswer (P .tables)) (take j (steps (P .tree))) []
 
 -- the grants are those of the bytes beyond the sets
-grants-same : (table count : ℕ) (w w₀ : List ℕ) → ((i : ℕ) → 57344 ≤ i → getD w i 0 ≡ getD w₀ i 0) → grantsOf 57344 table count w ≡ grantsOf 57344 table count w₀
+grants-same : (table count : ℕ) (w w₀ : List ℕ) → ((i : ℕ) → 57344 ≤ i → getD w i 0 ≡ getD w₀ i 0)
+    → grantsOf 57344 table count w ≡ grantsOf 57344 table count w₀
 unfolding grantsOf
 grants-same table count w w₀ h =
     let e : grantAt 57344 w ≡ grantAt 57344 w₀ = fun-ext (λ i. rw (h (57344 + 2 * i) (omega arith), h (57344 + 2 * i + 1) (omega arith))) in
@@ -78,7 +80,9 @@ module _ (p : Program) (j height : ℕ) (long : p .used ≤ length (p .cells)) (
 
   pub is-held : Held (cellAt p j) height
   unfolding Ready peak
-  is-held = let g = peak-ge (after height (cellOf (cellAt p j))) (rest p (j + 1)) in record { least = ready-now .0; most = omega (arith, peak-now); next = omega (arith, peak-now) }
+  is-held =
+      let g = peak-ge (after height (cellOf (cellAt p j))) (rest p (j + 1)) in
+      record { least = ready-now .0; most = omega (arith, peak-now); next = omega (arith, peak-now) }
 
   pub left-next : (height′ : ℕ) → height′ ≡ after height (cellOf (cellAt p j)) → Left p (j + 1) height′
   unfolding Ready peak
@@ -103,7 +107,8 @@ module _ (P : Policy) (n : Counts) (w₀ t : List ℕ) (p : Program) (here : Lis
   -- step j is that of cell j
   step-at : (j : ℕ) → j < p .used → getD (steps (P .tree)) j (cellOf (cell 0 0 0 0)) ≡ cellOf (cellAt p j)
   step-at j h =
-      ap (λ is. getD is j (cellOf (cell 0 0 0 0))) (sym (cp .program)) ∙ List·getD-map cellOf (take (p .used) (p .cells)) j (cell 0 0 0 0) ∙ ap cellOf (getD-take (p .used) (p .cells) j (cell 0 0 0 0) h)
+      ap (λ is. getD is j (cellOf (cell 0 0 0 0))) (sym (cp .program)) ∙ List·getD-map cellOf (take (p .used) (p .cells)) j (cell 0 0 0 0)
+      ∙ ap cellOf (getD-take (p .used) (p .cells) j (cell 0 0 0 0) h)
 
   module _ (w : List ℕ) (j height rounds : ℕ) (less : j < p .used) (a : At P w₀ w j height rounds) where
     next-stack : stackAt P (suc j) ≡ one (model (P .frame)) (P .limit) (tableAnswer (P .tables)) (cellOf (cellAt p j)) (stackAt P j)
@@ -116,17 +121,21 @@ module _ (P : Policy) (n : Counts) (w₀ t : List ℕ) (p : Program) (here : Lis
     can-step =
         record {
           frame = cp .frame;
-          table = λ e. let is = cp .tables j less e in record { flag = is .flag; list = λ h. is .list h ∙ sym (grants-same (cellAt p j .number) grants w w₀ (a .beyond)) };
+          table = λ e. let is = cp .tables j less e in
+              record { flag = is .flag; list = λ h. is .list h ∙ sym (grants-same (cellAt p j .number) grants w w₀ (a .beyond)) };
           same-limit = cp .same-limit;
           on-stack = a .high;
           stack = a .stack;
         }
 
-    pub at-next : (w′ : List ℕ) (r height′ : ℕ) → Stepped P (cellAt p j) (stackAt P j) w r w′ → height′ ≡ after height (cellOf (cellAt p j)) → At P w₀ w′ (j + 1) height′ (rounds + r)
+    pub at-next : (w′ : List ℕ) (r height′ : ℕ) → Stepped P (cellAt p j) (stackAt P j) w r w′ → height′ ≡ after height (cellOf (cellAt p j))
+        → At P w₀ w′ (j + 1) height′ (rounds + r)
     at-next w′ r height′ s e =
-        let n : stackAt P (j + 1) ≡ one (model (P .frame)) (P .limit) (tableAnswer (P .tables)) (cellOf (cellAt p j)) (stackAt P j) = ap (stackAt P) (add-one j) ∙ next-stack in
+        let n : stackAt P (j + 1) ≡ one (model (P .frame)) (P .limit) (tableAnswer (P .tables)) (cellOf (cellAt p j)) (stackAt P j)
+        = ap (stackAt P) (add-one j) ∙ next-stack in
         record {
-          high = e ∙ ap (λ h. after h (cellOf (cellAt p j))) (a .high) ∙ sym (ap length n ∙ length-one (model (P .frame)) (P .limit) (tableAnswer (P .tables)) (cellOf (cellAt p j)) (stackAt P j));
+          high = e ∙ ap (λ h. after h (cellOf (cellAt p j))) (a .high)
+              ∙ sym (ap length n ∙ length-one (model (P .frame)) (P .limit) (tableAnswer (P .tables)) (cellOf (cellAt p j)) (stackAt P j));
           stack = rw n (s .stack);
           all = rw n (omega (arith, a .all, s .all));
           beyond = λ i h. s .beyond i h ∙ a .beyond i h;
@@ -137,9 +146,11 @@ module _ (P : Policy) (n : Counts) (w₀ t : List ℕ) (p : Program) (here : Lis
   unfolding stackAt composed bytes
   at-end w j height rounds l g len a =
       let e : stackAt P j ≡ composed P ∷ [] =
-      ap (λ is. exec (model (P .frame)) (P .limit) (tableAnswer (P .tables)) is []) (take-all j (steps (P .tree)) (omega (arith, length-program))) ∙ exec-steps (model (P .frame)) (P .limit) (tableAnswer (P .tables)) (P .tree) [] in
+      ap (λ is. exec (model (P .frame)) (P .limit) (tableAnswer (P .tables)) is []) (take-all j (steps (P .tree)) (omega (arith, length-program)))
+      ∙ exec-steps (model (P .frame)) (P .limit) (tableAnswer (P .tables)) (P .tree) [] in
       record {
         answers = stack-last (subst (λ st. Stack (accesses (P .frame)) w (valuesOf st)) e (a .stack)) ∙ ap (map byte) (composed-answers P);
         all = a .all ∙ ap roundsOf e ∙ omega arith ∙ composed-rounds P;
-        beyond = ext-getD 0 (drop 57344 w) (drop 57344 w₀) (simp (length-drop, len)) (λ i h. getD-drop 57344 w i 0 ∙ a .beyond (57344 + i) (omega arith) ∙ sym (getD-drop 57344 w₀ i 0));
+        beyond = ext-getD 0 (drop 57344 w) (drop 57344 w₀) (simp (length-drop, len))
+            (λ i h. getD-drop 57344 w i 0 ∙ a .beyond (57344 + i) (omega arith) ∙ sym (getD-drop 57344 w₀ i 0));
       }

@@ -62,9 +62,10 @@ module _ (f r m : List ℕ) where
       pub in-memory : (w′ : List ℕ) → length w′ ≡ length w → n ≤ length w′
       in-memory w′ e = let h = few in omega arith
 
-      pub read-all : (rounds : ℕ) (w′ : List ℕ) → Compose.Composed (policy f w q G) w rounds w′
-          → (permits undecided : ℕ) (r′ : List ℕ) → r′ ≡ written (take n w′) r → permits ≡ tally 2 (take n w′) → undecided ≡ tally 1 (take n w′)
-          → composedOf (record { number = 0; line = 0; place = 0; accesses = n; permits = permits; undecided = undecided; rounds = rounds }) r′ (cleared m) ≡ compose f r m
+      pub read-all : (rounds : ℕ) (w′ : List ℕ) → Compose.Composed (policy f w q G) w rounds w′ → (permits undecided : ℕ) (r′ : List ℕ)
+          → r′ ≡ written (take n w′) r → permits ≡ tally 2 (take n w′) → undecided ≡ tally 1 (take n w′)
+          → composedOf (record { number = 0; line = 0; place = 0; accesses = n; permits = permits; undecided = undecided; rounds = rounds }) r′ (cleared m)
+          ≡ compose f r m
       unfolding composed composition
       read-all rounds w′ C permits undecided r′ er ep eu =
           rw (er, ep, eu, answers f w q G rounds w′ C n all, all, C .all)

@@ -17,13 +17,15 @@ use Rattle.algebra.specs.Program.{Step, plus-step, both-step, minus-step, steps
 use Rattle.algebra.specs.Order.{Op, le, ge, lt, gt, eq}
 use Rattle.algebra.specs.Stored.{storedOp}
 use Rattle.grammar.specs.Expression as Grammar
-use Rattle.grammar.specs.Expression.{Joiner, plus-sign, and-sign, minus-sign, Exp, one, more, Fac, plain, scoped, closed-by, Pri, table-name, bracket, byteJ, textS, textE, textF, textP}
+use Rattle.grammar.specs.Expression.{Joiner, plus-sign, and-sign, minus-sign, Exp, one, more, Fac, plain, scoped, closed-by, Pri, table-name, bracket, byteJ}
+use Rattle.grammar.specs.Expression.{textS, textE, textF, textP}
 use Rattle.grammar.specs.Names as Names
 use Rattle.grammar.specs.Names.{Kind, rule-set, Named, namesS, namesE, namesF, namesP, names, firstMissing, missing}
 use Rattle.grammar.specs.Lookup.{found, place}
 use Rattle.names.specs.Entries.{sortNumber}
 use Rattle.grammar.specs.Tree.{joined, scopeOf, treeOf, treeF, treeP}
-use Rattle.words.specs.Cells.{cellOf, cell, opNumber, signNumber, most-cells, most-count, countedTo, operatorsAfter, heightAfter, stored, placeOf, firstPlace, lacking, noted, emitName, emitS, emitE, emitF, emitP, Yields}
+use Rattle.words.specs.Cells.{cellOf, cell, opNumber, signNumber, most-cells, most-count, countedTo, operatorsAfter, heightAfter, stored, placeOf, firstPlace}
+use Rattle.words.specs.Cells.{lacking, noted, emitName, emitS, emitE, emitF, emitP, Yields}
 use Rattle.names.proofs.Lookup.{stored-sort}
 use Rattle.words.proofs.Within.{filledE}
 use Rattle.grammar.proofs.Names.{entry}
@@ -154,7 +156,8 @@ module _ (p : Program) where
         held-add = λ l. omega (arith, one-more (p .height) (omega arith));
       }
 
-  counts-joined : (j : Joiner) (p₁ p₂ : Program) (l r : Tree Scope) → Counts p p₁ l → Counts p₁ p₂ r → Counts p (stored p₂ (cell (signNumber j) 0 0 0)) (joined j l r)
+  counts-joined : (j : Joiner) (p₁ p₂ : Program) (l r : Tree Scope) → Counts p p₁ l → Counts p₁ p₂ r
+      → Counts p (stored p₂ (cell (signNumber j) 0 0 0)) (joined j l r)
   unfolding stored
   counts-joined j p₁ p₂ l r x y =
       let o = operators-joined j l r in
@@ -162,7 +165,9 @@ module _ (p : Program) where
       record {
         pos = omega (arith, x .pos);
         cells-add = λ xs z. holds-as
-            (append-assoc (xs ++ steps l) (steps r) _ ∙ append-assoc xs (steps l) _ ∙ ap (λ (s : Step Scope). xs ++ (steps l ++ (steps r ++ (s ∷ [])))) (sign-cell j) ∙ ap (λ (s : List (Step Scope)). xs ++ s) (sym (steps-joined j l r)))
+            (append-assoc (xs ++ steps l) (steps r) _ ∙ append-assoc xs (steps l) _
+            ∙ ap (λ (s : Step Scope). xs ++ (steps l ++ (steps r ++ (s ∷ [])))) (sign-cell j)
+            ∙ ap (λ (s : List (Step Scope)). xs ++ s) (sym (steps-joined j l r)))
             (holds-stored p₂ (cell (signNumber j) 0 0 0) ((xs ++ steps l) ++ steps r) (y .cells-add (xs ++ steps l) (x .cells-add xs z)));
         operators-add = λ z.
             let a = x .operators-add (omega arith) in
@@ -180,14 +185,16 @@ module _ (p : Program) where
             omega (arith, sign-height j (p₂ .height), x .pos);
       }
 
-  counts-override : (p₁ p₂ p₃ : Program) (l m r : Tree Scope) → Counts p p₁ l → Counts p₁ p₂ m → Counts p₂ p₃ r → Counts p (stored p₃ (cell 4 0 0 0)) (override l m r)
+  counts-override : (p₁ p₂ p₃ : Program) (l m r : Tree Scope) → Counts p p₁ l → Counts p₁ p₂ m → Counts p₂ p₃ r
+      → Counts p (stored p₃ (cell 4 0 0 0)) (override l m r)
   unfolding stored cellOf operatorsAfter heightAfter steps operators held
   counts-override p₁ p₂ p₃ l m r x y w =
       record {
         pos = omega (arith, x .pos);
         cells-add = λ xs z. holds-as
             (append-assoc ((xs ++ steps l) ++ steps m) (steps r) _ ∙ append-assoc (xs ++ steps l) (steps m) _ ∙ append-assoc xs (steps l) _)
-            (holds-stored p₃ (cell 4 0 0 0) (((xs ++ steps l) ++ steps m) ++ steps r) (w .cells-add ((xs ++ steps l) ++ steps m) (y .cells-add (xs ++ steps l) (x .cells-add xs z))));
+            (holds-stored p₃ (cell 4 0 0 0) (((xs ++ steps l) ++ steps m) ++ steps r)
+            (w .cells-add ((xs ++ steps l) ++ steps m) (y .cells-add (xs ++ steps l) (x .cells-add xs z))));
         operators-add = λ z.
             let a = x .operators-add (omega arith) in
             let b = y .operators-add (omega arith) in
@@ -218,7 +225,8 @@ module _ (p : Program) where
   counts-unary c p₁ t t′ s o h a b x =
       record {
         pos = omega (arith, x .pos);
-        cells-add = λ xs z. holds-as (append-assoc xs (steps t) _ ∙ ap (λ (r : List (Step Scope)). xs ++ r) (sym s)) (holds-stored p₁ c (xs ++ steps t) (x .cells-add xs z));
+        cells-add = λ xs z. holds-as (append-assoc xs (steps t) _ ∙ ap (λ (r : List (Step Scope)). xs ++ r) (sym s))
+            (holds-stored p₁ c (xs ++ steps t) (x .cells-add xs z));
         operators-add = λ z. let y = x .operators-add (omega arith) in a (p₁ .operators) ∙ one-more (p₁ .operators) (omega arith) ∙ omega arith;
         height-add = λ z. b (p₁ .height) ∙ x .height-add (omega arith);
         held-add = λ z. omega (arith, x .pos, b (p₁ .height), x .height-add (omega arith), x .held-add (omega arith));
@@ -287,9 +295,11 @@ module _ (number : Kind → List ℕ → Option ℕ) where
   countsS : (c : Grammar.Scope) (i : ℕ) (p p₁ : Program) (t : Tree Scope) → Counts p p₁ t → Counts p (emitS number c i p₁) (scope (scopeOf number c) t)
   unfolding emitS emitName scopeOf cellOf steps operators held operatorsAfter heightAfter
   countsS (Grammar.compare σ o n) i p p₁ t x =
-      counts-unary p (cell 5 (sortNumber σ) (opNumber o) (place (number (Names.member σ) n))) _ t _ (rw (stored-sort σ, stored-op o)) refl refl (λ n. refl) (λ n. refl) (counts-noted p (number (Names.member σ) n) _ p₁ t x)
+      counts-unary p (cell 5 (sortNumber σ) (opNumber o) (place (number (Names.member σ) n))) _ t _ (rw (stored-sort σ, stored-op o)) refl refl (λ n. refl)
+      (λ n. refl) (counts-noted p (number (Names.member σ) n) _ p₁ t x)
   countsS (Grammar.marked n σ) i p p₁ t x =
-      counts-unary p (cell 6 (sortNumber σ) 0 (place (number (Names.predicate σ) n))) _ t _ (rw (stored-sort σ)) refl refl (λ n. refl) (λ n. refl) (counts-noted p (number (Names.predicate σ) n) _ p₁ t x)
+      counts-unary p (cell 6 (sortNumber σ) 0 (place (number (Names.predicate σ) n))) _ t _ (rw (stored-sort σ)) refl refl (λ n. refl) (λ n. refl)
+      (counts-noted p (number (Names.predicate σ) n) _ p₁ t x)
 
   mutual
     unfolding emitE treeOf emitName cellOf steps operators held operatorsAfter heightAfter
@@ -302,7 +312,8 @@ module _ (number : Kind → List ℕ → Option ℕ) where
     countsF (plain q) i p = countsP q i p
     countsF (scoped f c) i p = countsS c _ p _ _ (countsF f i p)
     countsF (closed-by f n) i p =
-        counts-unary p (cell 7 0 0 (place (number rule-set n))) _ (treeF number f) _ refl refl refl (λ n. refl) (λ n. refl) (counts-noted p (number rule-set n) _ _ _ (countsF f i p))
+        counts-unary p (cell 7 0 0 (place (number rule-set n))) _ (treeF number f) _ refl refl refl (λ n. refl) (λ n. refl)
+        (counts-noted p (number rule-set n) _ _ _ (countsF f i p))
 
     countsP : (q : Pri) (i : ℕ) (p : Program) → Counts p (emitP number q i p) (treeP number q)
     countsP (table-name n) i p = counts-after p (number Names.table n) i _ _ (counts-table (noted (number Names.table n) i p) (place (number Names.table n)))
@@ -322,14 +333,16 @@ module _ (number : Kind → List ℕ → Option ℕ) where
   first-append (m ∷ ms) ns = go (declared (m .kind) (m .name)) (first-append ms ns)
     where
       go : (b : Bool) → firstMissing declared (ms ++ ns) ≡ orElse (firstMissing declared ms) (firstMissing declared ns)
-          → _≡_ {A = Option ℕ} (elim b [ true ↦ firstMissing declared (ms ++ ns) | false ↦ some (m .place) ]) (orElse (elim b [ true ↦ firstMissing declared ms | false ↦ some (m .place) ]) (firstMissing declared ns))
+          → _≡_ {A = Option ℕ} (elim b [ true ↦ firstMissing declared (ms ++ ns) | false ↦ some (m .place) ])
+          (orElse (elim b [ true ↦ firstMissing declared ms | false ↦ some (m .place) ]) (firstMissing declared ns))
       go true e = e
       go false e = refl
 
   misses-append : (p p₁ p₂ : Program) (ms ns : List Named) → Misses p p₁ ms → Misses p₁ p₂ ns → Misses p p₂ (ms ++ ns)
   misses-append p p₁ p₂ ms ns x y = y ∙ rw (x, or-else-assoc, first-append ms ns)
 
-  noted-place : (o : Option ℕ) (i : ℕ) (p : Program) → placeOf (noted o i p .missing) ≡ orElse (placeOf (p .missing)) (elim (found o) [ true ↦ none | false ↦ some i ])
+  noted-place : (o : Option ℕ) (i : ℕ) (p : Program)
+      → placeOf (noted o i p .missing) ≡ orElse (placeOf (p .missing)) (elim (found o) [ true ↦ none | false ↦ some i ])
   unfolding noted lacking firstPlace found orElse
   noted-place (some m) i p = go (p .missing)
     where
@@ -342,7 +355,8 @@ module _ (number : Kind → List ℕ → Option ℕ) where
       go (At j) = refl
       go Nowhere = refl
 
-  misses-name : (k : Kind) (n : List ℕ) (i : ℕ) (c : Cell) (p p₁ : Program) (ms : List Named) → Misses p p₁ ms → Misses p (emitName number k n i c p₁) (ms ++ (entry k n i ∷ []))
+  misses-name : (k : Kind) (n : List ℕ) (i : ℕ) (c : Cell) (p p₁ : Program) (ms : List Named) → Misses p p₁ ms
+      → Misses p (emitName number k n i c p₁) (ms ++ (entry k n i ∷ []))
   unfolding emitName stored firstMissing declared
   misses-name k n i c p p₁ ms x = misses-append p p₁ (emitName number k n i c p₁) ms (entry k n i ∷ []) x (noted-place (number k n) i p₁)
 

@@ -12,11 +12,13 @@ use borrow.Author.Tests.{eq-eqb, ne-eqb, eqb-true}
 use Rattle.algebra.specs.Sort.{Sort, subject, object, action}
 use Rattle.grammar.specs.Name.{isLetter, sortWord}
 use Rattle.grammar.specs.Expression.{Joiner, plus-sign, and-sign, minus-sign, Exp, Fac, plain, table-name, bracket, override, byteJ, textE, textF, textP}
-use Rattle.grammar.specs.Machine.{Left, start, after, join, Frame, open-bracket, open-first, open-second, open-third, at-table, State, need, naming, have, closed, parted, delimited, joined, onward, last, named, named-end, finish, grows, step, run}
+use Rattle.grammar.specs.Machine.{Left, start, after, join, Frame, open-bracket, open-first, open-second, open-third, at-table, State, need, naming, have}
+use Rattle.grammar.specs.Machine.{closed, parted, delimited, joined, onward, last, named, named-end, finish, grows, step, run}
 use Rattle.grammar.specs.Names.{Kind, table}
 use Rattle.names.specs.Entries.{sortNumber}
 use Rattle.words.specs.Cells.{cell, signNumber, stored, emitName, emitE, emitF}
-use Rattle.words.specs.Contract.{sortCode, signCode, suffixByte, Word, Starts, SuffixesAt, Stuck, PrimaryAt, FactorAt, ReadsMore, MoreAt, ReadsExpression, ExpressionAt, Awaits, StuckPart, PartAt, OverrideAt}
+use Rattle.words.specs.Contract.{sortCode, signCode, suffixByte, Word, Starts, SuffixesAt, Stuck, PrimaryAt, FactorAt, ReadsMore, MoreAt, ReadsExpression}
+use Rattle.words.specs.Contract.{ExpressionAt, Awaits, StuckPart, PartAt, OverrideAt}
 use Rattle.words.specs.declared.Parsed.{Parsed}
 use Rattle.words.specs.declared.Parsed.the-variants.{Good, Bad}
 use Rattle.words.specs.declared.Program.{Program}
@@ -39,7 +41,8 @@ pub delims : (a : ℕ) (ks : List Frame) (l : Left) (f : Fac) (b : ℕ) → suff
 unfolding onward joined suffixByte signCode
 delims a ks l f b s o = go (eqb b 43) (eqb b 38) (eqb b 45) refl refl refl o
   where
-    go : (x y z : Bool) → eqb b 43 ≡ x → eqb b 38 ≡ y → eqb b 45 ≡ z → _≡_ {A = ℕ} (cond x 1 (cond y 2 (cond z 3 0))) 0 → onward a ks l f b ≡ delimited a ks (join l f) b
+    go : (x y z : Bool) → eqb b 43 ≡ x → eqb b 38 ≡ y → eqb b 45 ≡ z → _≡_ {A = ℕ} (cond x 1 (cond y 2 (cond z 3 0))) 0
+        → onward a ks l f b ≡ delimited a ks (join l f) b
     go true y z p q r h = absurd (omega arith)
     go false true z p q r h = absurd (omega arith)
     go false false true p q r h = absurd (omega arith)
@@ -49,7 +52,8 @@ sign-of : (b : ℕ) → (signCode b ≡ 0 → ⊥) → (j : Joiner) × (b ≡ by
 unfolding signCode byteJ signNumber
 sign-of b ne = go (eqb b 43) (eqb b 38) (eqb b 45) refl refl refl ne
   where
-    go : (x y z : Bool) → eqb b 43 ≡ x → eqb b 38 ≡ y → eqb b 45 ≡ z → (_≡_ {A = ℕ} (cond x 1 (cond y 2 (cond z 3 0))) 0 → ⊥) → (j : Joiner) × (b ≡ byteJ j) × (signCode b ≡ signNumber j)
+    go : (x y z : Bool) → eqb b 43 ≡ x → eqb b 38 ≡ y → eqb b 45 ≡ z → (_≡_ {A = ℕ} (cond x 1 (cond y 2 (cond z 3 0))) 0 → ⊥)
+        → (j : Joiner) × (b ≡ byteJ j) × (signCode b ≡ signNumber j)
     go true y z p q r h = (plus-sign, eqb-true b 43 p, rw p)
     go false true z p q r h = (and-sign, eqb-true b 38 q, rw (p, q))
     go false false true p q r h = (minus-sign, eqb-true b 45 r, rw (p, q, r))
@@ -101,11 +105,16 @@ module _ (number : Kind → List ℕ → Option ℕ) (t : List ℕ) where
     unfolding PartAt
     g-good e x h = (the-expression e x, h)
 
-    pub g-open : (p′ : Program) {c n : ℕ} {r : Parsed} → r ≡ Good n → ExpressionAt number t at a p q r → (getD t n 0 ≡ c → ⊥) → PartAt number t at a c p p′ (Bad n)
+    pub g-open : (p′ : Program) {c n : ℕ} {r : Parsed} → r ≡ Good n → ExpressionAt number t at a p q r → (getD t n 0 ≡ c → ⊥)
+        → PartAt number t at a c p p′ (Bad n)
     unfolding PartAt step finish
     g-open p′ {c} {n} e x h =
         let g = the-expression e x in
-        record { within = g .within; stops = λ ks w. g .reads ks ∙ run-none t n (have a ks (g .left) (g .end)) (g .within) (delims a ks _ _ _ (g .no-suffix) (g .no-sign) ∙ w .no-step a _ _ h) (w .no-end _) }
+        record {
+          within = g .within;
+          stops = λ ks w. g .reads ks
+              ∙ run-none t n (have a ks (g .left) (g .end)) (g .within) (delims a ks _ _ _ (g .no-suffix) (g .no-sign) ∙ w .no-step a _ _ h) (w .no-end _);
+        }
 
     the-part : {c n : ℕ} {r : Parsed} → r ≡ Good n → PartAt number t at a c p q r → ReadsExpression number t at a n p q × (getD t n 0 ≡ c)
     unfolding PartAt
@@ -141,7 +150,8 @@ module _ (number : Kind → List ℕ → Option ℕ) (t : List ℕ) where
     h-first e x = let s = the-stuck at a p q e x in record { within = s .within; stops = λ ks l. s .stops (open-first l ∷ ks) (first-awaits l ks) }
 
     module _ {i : ℕ} {r : Parsed} (e : r ≡ Good i) (x : PartAt number t at a 44 p q r) (q₂ : Program) where
-      one-read : (ks : List Frame) (l : Left) → run (drop at t) (need a (open-first l ∷ ks) start) ≡ run (drop (i + 1) t) (need a (open-second l (the-exp at a p q 44 e x) ∷ ks) start)
+      one-read : (ks : List Frame) (l : Left)
+          → run (drop at t) (need a (open-first l ∷ ks) start) ≡ run (drop (i + 1) t) (need a (open-second l (the-exp at a p q 44 e x) ∷ ks) start)
       unfolding step onward joined delimited parted the-exp
       one-read ks l = part-step at a p q e x (open-first l ∷ ks) _ (omega arith) refl
 
@@ -150,14 +160,16 @@ module _ (number : Kind → List ℕ → Option ℕ) (t : List ℕ) where
       h-second e₂ y = let s = the-stuck (i + 1) a q q₂ e₂ y in record { within = s .within; stops = λ ks l. one-read ks l ∙ s .stops _ (second-awaits l ks _) }
 
       module _ {j : ℕ} {r₂ : Parsed} (e₂ : r₂ ≡ Good j) (y : PartAt number t (i + 1) a 44 q q₂ r₂) (q₃ : Program) where
-        two-read : (ks : List Frame) (l : Left)
-            → run (drop at t) (need a (open-first l ∷ ks) start) ≡ run (drop (j + 1) t) (need a (open-third l (the-exp at a p q 44 e x) (the-exp (i + 1) a q q₂ 44 e₂ y) ∷ ks) start)
+        two-read : (ks : List Frame) (l : Left) → run (drop at t) (need a (open-first l ∷ ks) start)
+            ≡ run (drop (j + 1) t) (need a (open-third l (the-exp at a p q 44 e x) (the-exp (i + 1) a q q₂ 44 e₂ y) ∷ ks) start)
         unfolding step onward joined delimited parted the-exp
         two-read ks l = one-read ks l ∙ part-step (i + 1) a q q₂ e₂ y (open-second l (the-exp at a p q 44 e x) ∷ ks) _ (omega arith) refl
 
         pub h-third : {n : ℕ} {r₃ : Parsed} → r₃ ≡ Bad n → PartAt number t (j + 1) a 41 q₂ q₃ r₃ → OverrideAt number t at a p p′ (Bad n)
         unfolding OverrideAt
-        h-third e₃ z = let s = the-stuck (j + 1) a q₂ q₃ e₃ z in record { within = s .within; stops = λ ks l. two-read ks l ∙ s .stops _ (third-awaits l ks _ _) }
+        h-third e₃ z =
+            let s = the-stuck (j + 1) a q₂ q₃ e₃ z in
+            record { within = s .within; stops = λ ks l. two-read ks l ∙ s .stops _ (third-awaits l ks _ _) }
 
         module _ {n : ℕ} {r₃ : Parsed} (e₃ : r₃ ≡ Good n) (z : PartAt number t (j + 1) a 41 q₂ q₃ r₃) where
           E₁ : Exp
@@ -180,10 +192,13 @@ module _ (number : Kind → List ℕ → Option ℕ) (t : List ℕ) where
               let a₁ : i + 1 ≡ k + 2 + length (textE (the-exp at a p q 44 e x)) + 1 = omega arith in
               let a₂ : j + 1 ≡ k + 2 + length (textE (the-exp at a p q 44 e x)) + 1 + length (textE (the-exp (i + 1) a q q₂ 44 e₂ y)) + 1 = omega arith in
               let u₁ : q ≡ emitE number (the-exp at a p q 44 e x) (k + 2) p = m₁ ∙ ap (λ (v : ℕ). emitE number (the-exp at a p q 44 e x) v p) h in
-              let u₂ : q₂ ≡ emitE number (the-exp (i + 1) a q q₂ 44 e₂ y) (k + 2 + length (textE (the-exp at a p q 44 e x)) + 1) (emitE number (the-exp at a p q 44 e x) (k + 2) p) =
-              m₂ ∙ ap (λ (v : ℕ). emitE number (the-exp (i + 1) a q q₂ 44 e₂ y) v q) a₁ ∙ ap (λ (v : Program). emitE number (the-exp (i + 1) a q q₂ 44 e₂ y) (k + 2 + length (textE (the-exp at a p q 44 e x)) + 1) v) u₁ in
+              let u₂ : q₂ ≡ emitE number (the-exp (i + 1) a q q₂ 44 e₂ y) (k + 2 + length (textE (the-exp at a p q 44 e x)) + 1)
+              (emitE number (the-exp at a p q 44 e x) (k + 2) p) =
+              m₂ ∙ ap (λ (v : ℕ). emitE number (the-exp (i + 1) a q q₂ 44 e₂ y) v q) a₁
+              ∙ ap (λ (v : Program). emitE number (the-exp (i + 1) a q q₂ 44 e₂ y) (k + 2 + length (textE (the-exp at a p q 44 e x)) + 1) v) u₁ in
               let u₃ = m₃ ∙ ap (λ (v : ℕ). emitE number (the-exp (j + 1) a q₂ q₃ 41 e₃ z) v q₂) a₂
-              ∙ ap (λ (v : Program). emitE number (the-exp (j + 1) a q₂ q₃ 41 e₃ z) (k + 2 + length (textE (the-exp at a p q 44 e x)) + 1 + length (textE (the-exp (i + 1) a q q₂ 44 e₂ y)) + 1) v) u₂ in
+              ∙ ap (λ (v : Program). emitE number (the-exp (j + 1) a q₂ q₃ 41 e₃ z)
+              (k + 2 + length (textE (the-exp at a p q 44 e x)) + 1 + length (textE (the-exp (i + 1) a q q₂ 44 e₂ y)) + 1) v) u₂ in
               w ∙ ap (λ (v : Program). stored v (cell 4 0 0 0)) u₃
 
           pub h-good : p′ ≡ stored q₃ (cell 4 0 0 0) → OverrideAt number t at a p p′ (Good (n + 1))
@@ -217,7 +232,11 @@ module _ (number : Kind → List ℕ → Option ℕ) (t : List ℕ) where
     unfolding PrimaryAt step isLetter finish
     p-full e z =
         let i = is-in 40 t at e (omega arith) in
-        record { within = omega arith; stops = λ ks l. run-none t at (need a ks l) (omega arith) (ap (step (need a ks l)) e ∙ full a ks (open-bracket l) z) refl }
+        record {
+          within = omega arith;
+          stops = λ ks l. run-none t at (need a ks l) (omega arith) (ap (step (need a ks l)) e ∙ full a ks (open-bracket l) z)
+              refl;
+        }
 
     -- a bracket opens
     module _ (e : getD t at 0 ≡ 40) (ne : a ≡ 0 → ⊥) where
@@ -240,7 +259,8 @@ module _ (number : Kind → List ℕ → Option ℕ) (t : List ℕ) where
               within = omega arith;
               spans = omega (arith, part-spans (at + 1) (a - 1) p p′ 41 y x, length-append (textE f) (41 ∷ []));
               emits = part-emits (at + 1) (a - 1) p p′ 41 y x;
-              reads = λ ks l. inside ks l ∙ part-step (at + 1) (a - 1) p p′ y x (open-bracket l ∷ ks) (have (suc (a - 1)) ks l (plain (bracket f))) (omega arith) refl
+              reads = λ ks l. inside ks l ∙ part-step (at + 1) (a - 1) p p′ y x (open-bracket l ∷ ks) (have (suc (a - 1)) ks l (plain (bracket f)))
+                  (omega arith) refl
                   ∙ ap (λ (m : ℕ). run (drop (n + 1) t) (have m ks l (plain (bracket f)))) (one-less a ne);
             },
           )
@@ -280,12 +300,17 @@ module _ (number : Kind → List ℕ → Option ℕ) (t : List ℕ) where
             )
 
         -- a sort's letter leads on by '(' alone, and only 'o'
-        stuck-word : (σ : Sort) → sortWord (slice at e t) ≡ some σ → ((ks : List Frame) (l : Left) → named a ks (at-table l) (slice at e t) (some σ) (getD t e 0) ≡ none) → PrimaryAt number t at a p p′ (Bad e)
+        stuck-word : (σ : Sort) → sortWord (slice at e t) ≡ some σ
+            → ((ks : List Frame) (l : Left) → named a ks (at-table l) (slice at e t) (some σ) (getD t e 0) ≡ none) → PrimaryAt number t at a p p′ (Bad e)
         unfolding PrimaryAt step finish named-end
         stuck-word σ w f =
             let y = the-word t at q x in
             let o = y .over in
-            record { within = y .within; stops = λ ks l. to-word ks l ∙ run-none t e (naming a ks (at-table l) (slice at e t)) (y .within) (rw (o, w) (f ks l)) (rw w) }
+            record {
+              within = y .within;
+              stops = λ ks l. to-word ks l
+                  ∙ run-none t e (naming a ks (at-table l) (slice at e t)) (y .within) (rw (o, w) (f ks l)) (rw w);
+            }
 
         pub p-word : (s ≡ 3 → ⊥) → (s ≡ 1 → ⊥) → PrimaryAt number t at a p p′ (Bad e)
         unfolding named sortNumber
@@ -313,7 +338,8 @@ module _ (number : Kind → List ℕ → Option ℕ) (t : List ℕ) where
             unfolding step named
             to-override ks l =
                 let o = the-word t at q x .over in
-                to-word ks l ∙ run-go t e (naming a ks (at-table l) (slice at e t)) (need (a - 1) (open-first l ∷ ks) start) (is-in 40 t e y (omega arith)) (rw (o, is-object, eq-eqb _ 40 y) (opens a na ks (open-first l)))
+                to-word ks l ∙ run-go t e (naming a ks (at-table l) (slice at e t)) (need (a - 1) (open-first l ∷ ks) start) (is-in 40 t e y (omega arith))
+                (rw (o, is-object, eq-eqb _ 40 y) (opens a na ks (open-first l)))
 
             pub p-override : (r′ : Parsed) → OverrideAt number t (e + 1) (a - 1) p p′ r′ → PrimaryAt number t at a p p′ r′
             unfolding PrimaryAt OverrideAt textF
@@ -326,7 +352,8 @@ module _ (number : Kind → List ℕ → Option ℕ) (t : List ℕ) where
                     within = c .within;
                     spans = omega (arith, c .spans);
                     emits = c .emits at (omega arith);
-                    reads = λ ks l. to-override ks l ∙ c .reads ks l ∙ ap (λ (m : ℕ). run (drop n t) (have m ks l (plain (override (c .x) (c .y) (c .z))))) (one-less a na);
+                    reads = λ ks l. to-override ks l ∙ c .reads ks l
+                        ∙ ap (λ (m : ℕ). run (drop n t) (have m ks l (plain (override (c .x) (c .y) (c .z))))) (one-less a na);
                   },
                 )
             p-override (Bad n) c = record { within = c .within; stops = λ ks l. to-override ks l ∙ c .stops ks l }
@@ -341,7 +368,8 @@ module _ (number : Kind → List ℕ → Option ℕ) (t : List ℕ) where
     unfolding PrimaryAt
     f-in e x = subst (PrimaryAt number t at a p q) e x .1 .within
 
-    pub f-join : (p′ : Program) {n : ℕ} {r : Parsed} → r ≡ Good n → PrimaryAt number t at a p q r → (r′ : Parsed) → SuffixesAt number t n q p′ r′ → FactorAt number t at a p p′ r′
+    pub f-join : (p′ : Program) {n : ℕ} {r : Parsed} → r ≡ Good n → PrimaryAt number t at a p q r → (r′ : Parsed) → SuffixesAt number t n q p′ r′
+        → FactorAt number t at a p p′ r′
     unfolding PrimaryAt FactorAt SuffixesAt
     f-join p′ {n} e x (Good m) y =
         let c = subst (PrimaryAt number t at a p q) e x in
@@ -391,8 +419,10 @@ module _ (number : Kind → List ℕ → Option ℕ) (t : List ℕ) where
         pub m-in : i < length t
         m-in = is-in _ t i (the-sign .1) (pos-sign (the-sign .0))
 
-        signed : (ks : List Frame) (l : Left) (f : Fac) → run (drop at t) (have a ks l f) ≡ run (drop (i + 1) t) (need a ks (after (join (x .left l f) (x .end l f)) (the-sign .0)))
-        signed ks l f = x .reads ks l f ∙ run-byte t i (byteJ (the-sign .0)) _ _ (the-sign .1) (pos-sign (the-sign .0)) (joiner-step (the-sign .0) a ks (x .left l f) (x .end l f))
+        signed : (ks : List Frame) (l : Left) (f : Fac)
+            → run (drop at t) (have a ks l f) ≡ run (drop (i + 1) t) (need a ks (after (join (x .left l f) (x .end l f)) (the-sign .0)))
+        signed ks l f = x .reads ks l f
+            ∙ run-byte t i (byteJ (the-sign .0)) _ _ (the-sign .1) (pos-sign (the-sign .0)) (joiner-step (the-sign .0) a ks (x .left l f) (x .end l f))
 
         pub m-bad : (p′ g : Program) {n : ℕ} {r : Parsed} → r ≡ Bad n → FactorAt number t (i + 1) a q g r → MoreAt number t at a p p′ (Bad n)
         unfolding FactorAt MoreAt
@@ -402,7 +432,8 @@ module _ (number : Kind → List ℕ → Option ℕ) (t : List ℕ) where
         unfolding FactorAt
         m-past g e z = let s = subst (FactorAt number t (i + 1) a q g) e z .1 in (omega (arith, s .past), s .within)
 
-        pub m-next : (g q′ : Program) {n : ℕ} {r : Parsed} → r ≡ Good n → FactorAt number t (i + 1) a q g r → q′ ≡ stored g (cell k 0 0 0) → ReadsMore number t at a n p q′
+        pub m-next : (g q′ : Program) {n : ℕ} {r : Parsed} → r ≡ Good n → FactorAt number t (i + 1) a q g r → q′ ≡ stored g (cell k 0 0 0)
+            → ReadsMore number t at a n p q′
         unfolding FactorAt join textE emitE
         m-next g q′ {n} e z v =
             let s = subst (FactorAt number t (i + 1) a q g) e z in
@@ -419,7 +450,9 @@ module _ (number : Kind → List ℕ → Option ℕ) (t : List ℕ) where
                   let m = x .emits l f h u d o in
                   let c : i + 1 ≡ h + length (textE (join (x .left l f) (x .end l f))) + 1 = omega (arith, x .spans l f) in
                   v ∙ ap (λ (k′ : ℕ). stored g (cell k′ 0 0 0)) code
-                  ∙ ap (λ (g′ : Program). stored g′ (cell (signNumber j) 0 0 0)) (s .1 .emits ∙ ap (λ (q₁ : Program). emitF number (s .0) (i + 1) q₁) m ∙ ap (λ (i′ : ℕ). emitF number (s .0) i′ (emitE number (join (x .left l f) (x .end l f)) h u)) c);
+                  ∙ ap (λ (g′ : Program). stored g′ (cell (signNumber j) 0 0 0))
+                  (s .1 .emits ∙ ap (λ (q₁ : Program). emitF number (s .0) (i + 1) q₁) m
+                  ∙ ap (λ (i′ : ℕ). emitF number (s .0) i′ (emitE number (join (x .left l f) (x .end l f)) h u)) c);
               reads = λ ks l f. signed ks l f ∙ s .1 .reads ks _;
             }
 
@@ -433,7 +466,8 @@ module _ (number : Kind → List ℕ → Option ℕ) (t : List ℕ) where
     unfolding FactorAt
     e-in e x = subst (FactorAt number t at a p q) e x .1 .within
 
-    pub e-join : (p′ : Program) {n : ℕ} {r : Parsed} → r ≡ Good n → FactorAt number t at a p q r → (r′ : Parsed) → MoreAt number t n a q p′ r′ → ExpressionAt number t at a p p′ r′
+    pub e-join : (p′ : Program) {n : ℕ} {r : Parsed} → r ≡ Good n → FactorAt number t at a p q r → (r′ : Parsed) → MoreAt number t n a q p′ r′
+        → ExpressionAt number t at a p p′ r′
     unfolding FactorAt MoreAt ExpressionAt join textE emitE
     e-join p′ {n} e x (Good m) y =
         let s = subst (FactorAt number t at a p q) e x in

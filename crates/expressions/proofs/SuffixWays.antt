@@ -57,7 +57,8 @@ module _ (t : List ℕ) (at : ℕ) where
         let s = subst (Name t (at + 1)) q y in
         record { within = s .within; stops = λ a ks l f. to-star a ks l f ∙ s .stops a ks (at-ruleset l f) _ (strict-ruleset l f) (ruleset-starts a ks l f _) }
 
-    pub x-name : {n : ℕ} {r : Parsed} → r ≡ Good n → Name t (at + 1) r → SuffixAt t at (Scoped (record { name = RuleSet; cell = cell 7 0 0 0; from = at + 1; to = n; next = n }))
+    pub x-name : {n : ℕ} {r : Parsed} → r ≡ Good n → Name t (at + 1) r
+        → SuffixAt t at (Scoped (record { name = RuleSet; cell = cell 7 0 0 0; from = at + 1; to = n; next = n }))
     unfolding SuffixAt Name textF emitF
     x-name {n} q y =
         let s = subst (Name t (at + 1)) q y in
@@ -74,7 +75,8 @@ module _ (t : List ℕ) (at : ℕ) where
                 within = s .within;
                 spans = λ f. omega (arith, length-append (textF f) (42 ∷ m), s .past);
                 emits = λ f i u h w. rw (w, h);
-                reads = λ a ks l f. to-star a ks l f ∙ s .reads a ks (at-ruleset l f) (begin a ks (at-ruleset l f)) (ruleset-starts a ks l f _) ∙ settle-ruleset a ks l m (s .no-sort) f (drop n t) g;
+                reads = λ a ks l f. to-star a ks l f ∙ s .reads a ks (at-ruleset l f) (begin a ks (at-ruleset l f)) (ruleset-starts a ks l f _)
+                    ∙ settle-ruleset a ks l m (s .no-sort) f (drop n t) g;
               },
         )
 
@@ -109,7 +111,8 @@ module _ (t : List ℕ) (at : ℕ) where
                   past = omega (arith, s .past);
                   within = s .within;
                   spans = λ f. omega (arith, n, length-append (textF f) (94 ∷ 91 ∷ (textS (s .tree) ++ (93 ∷ []))), length-append (textS (s .tree)) (93 ∷ []));
-                  emits = λ f i u h w. s .emits number p ∙ ap (λ (v : Program). emitS number (s .tree) (at + 1 + 1) v) w ∙ ap (λ (j : ℕ). emitS number (s .tree) j (emitF number f i u)) (omega arith);
+                  emits = λ f i u h w. s .emits number p ∙ ap (λ (v : Program). emitS number (s .tree) (at + 1 + 1) v) w
+                      ∙ ap (λ (j : ℕ). emitS number (s .tree) j (emitF number f i u)) (omega arith);
                   reads = λ a ks l f. to-scope a ks l f ∙ s .reads a ks l f;
                 },
           )
@@ -143,7 +146,8 @@ module _ (number : Kind → List ℕ → Option ℕ) (t : List ℕ) (at : ℕ) (
       unfolding SuffixAt
       xs-past = (the-suffix .2, the-suffix .3 number q .within)
 
-      pub xs-next : (q′ : Program) → q′ ≡ emitName number (kindOf (y .name)) (slice (y .from) (y .to) t) (y .from) (y .cell) q → ReadsSuffixes number t at (y .next) p q′
+      pub xs-next : (q′ : Program) → q′ ≡ emitName number (kindOf (y .name)) (slice (y .from) (y .to) t) (y .from) (y .cell) q
+          → ReadsSuffixes number t at (y .next) p q′
       unfolding SuffixAt
       xs-next q′ g =
           let s = the-suffix .3 number q in

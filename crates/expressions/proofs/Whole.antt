@@ -8,7 +8,8 @@ use native.Mathlib.Omega.{arith}
 use lib.Dec.{eqb}
 use lib.ListN.{length, drop, length-drop}
 use Rattle.grammar.specs.Expression.{Exp, most-open}
-use Rattle.grammar.specs.Machine.{start, join, State, need, have, closed, parted, delimited, stuck, whole, last, finish, step, run, Reading, read, wrong, told, reading}
+use Rattle.grammar.specs.Machine.{start, join, State, need, have, closed, parted, delimited, stuck, whole, last, finish, step, run, Reading, read, wrong, told}
+use Rattle.grammar.specs.Machine.{reading}
 use Rattle.grammar.specs.Names.{Kind}
 use Rattle.words.specs.Cells.{Yields}
 use Rattle.words.specs.Contract.{ReadsExpression, ExpressionAt, Told, Answer}
@@ -24,7 +25,8 @@ unfolding delimited closed parted
 top-none a e b = ap (λ (o : Option State). cond (eqb b 41) none o) (cond-same (eqb b 44)) ∙ cond-same (eqb b 41)
 
 module _ (number : Kind → List ℕ → Option ℕ) (t : List ℕ) (p q : Program) where
-  told-stuck : (n : ℕ) (d : Program) → n ≤ length t → run t (need most-open [] start) ≡ stuck (drop n t) → Answer number t record { answer = Bad n; program = d }
+  told-stuck : (n : ℕ) (d : Program) → n ≤ length t → run t (need most-open [] start) ≡ stuck (drop n t)
+      → Answer number t record { answer = Bad n; program = d }
   unfolding Told told
   told-stuck n d h e =
       let x : reading t ≡ wrong n = reading-is t ∙ ap (told t) e ∙ ap wrong (omega (arith, length-drop n t)) in
@@ -43,7 +45,8 @@ module _ (number : Kind → List ℕ → Option ℕ) (t : List ℕ) (p q : Progr
     unfolding step
     r-rest d ne =
         let g = the-expression in
-        told-stuck n d (g .within) (g .reads [] ∙ run-stop t n (have 32 [] (g .left) (g .end)) (omega (arith, g .within)) (delims 32 [] _ _ _ (g .no-suffix) (g .no-sign) ∙ top-none 32 _ _))
+        told-stuck n d (g .within) (g .reads [] ∙ run-stop t n (have 32 [] (g .left) (g .end)) (omega (arith, g .within))
+        (delims 32 [] _ _ _ (g .no-suffix) (g .no-sign) ∙ top-none 32 _ _))
 
     pub r-whole : Empty p → length t ≤ 32768 → n ≡ length t → Answer number t record { answer = Good n; program = q }
     unfolding Told told finish last
@@ -51,4 +54,5 @@ module _ (number : Kind → List ℕ → Option ℕ) (t : List ℕ) (p q : Progr
         let g = the-expression in
         let y : reading t ≡ read (join (g .left) (g .end)) = reading-is t ∙ ap (told t) (g .reads [] ∙ run-end t n _ (omega arith)) in
         let w = yields number (join (g .left) (g .end)) p z (omega (arith, g .spans)) in
-        subst (λ (v : Reading). Told number t v record { answer = Good n; program = q }) (sym y) (ap Good h, subst (Yields number (join (g .left) (g .end))) (sym (g .emits)) w)
+        subst (λ (v : Reading). Told number t v record { answer = Good n; program = q }) (sym y)
+        (ap Good h, subst (Yields number (join (g .left) (g .end))) (sym (g .emits)) w)

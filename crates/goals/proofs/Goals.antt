@@ -28,7 +28,8 @@ use Rattle.words.specs.declared.Made.{Made}
 use Rattle.reader.specs.Line.{expressionLine}
 use Rattle.reader.specs.Declarations.{Declared, groupOf}
 use Rattle.reader.specs.Expression.{lookup, isDeclared}
-use Rattle.reader.specs.Rows.{row, if, good, refuse, first, rows, outOfOrder, withoutRule, badCounts, tooMany, declaredAlready, notDeclared, grantsAway, twoSorts, notOfGrammar, nameNotDeclared, tooLarge, expressionRows}
+use Rattle.reader.specs.Rows.{row, if, good, refuse, first, rows, outOfOrder, withoutRule, badCounts, tooMany, declaredAlready, notDeclared, grantsAway}
+use Rattle.reader.specs.Rows.{twoSorts, notOfGrammar, nameNotDeclared, tooLarge, expressionRows}
 use Rattle.reader.specs.File.{goalOf, add}
 use Rattle.state.specs.Standing.{NamesStand, Stands}
 use Rattle.state.specs.Judged.{lateOf, badCountsOf}
@@ -56,7 +57,8 @@ part-is (suc a) (suc e) (x ∷ xs) h =
     let q : suc e - suc a ≡ e - a = omega arith in
     ap (λ (k : ℕ). take k (drop a xs)) q ∙ part-is a e xs (omega arith)
 
-pub told-part : (number : Kind → List ℕ → Option ℕ) (f : List ℕ) (a e : ℕ) (m : Made) → a ≤ e → Answer number (take (e - a) (drop a f)) m → Answer number (slice a e f) m
+pub told-part : (number : Kind → List ℕ → Option ℕ) (f : List ℕ) (a e : ℕ) (m : Made) → a ≤ e → Answer number (take (e - a) (drop a f)) m
+    → Answer number (slice a e f) m
 told-part number f a e m h told = subst (λ (t : List ℕ). Told number t (reading t) m) (part-is a e f h) told
 
 -- ---- what the reader of expressions says, taken apart
@@ -101,7 +103,8 @@ judged-no d limit t n p h e j en ep el = record {
 
 -- ---- the verdict and the program
 
-module _ (f starts ends tags : List ℕ) (c : NameCounts) (d : Declared) (ns : NamesStand f starts ends tags c d) (group : ℕ) (g : d .group ≡ group) (limit : ℕ) (t : List ℕ) where
+module _ (f starts ends tags : List ℕ) (c : NameCounts) (d : Declared) (ns : NamesStand f starts ends tags c d) (group : ℕ) (g : d .group ≡ group)
+    (limit : ℕ) (t : List ℕ) where
   no-rule : withoutRule (d .rules) (expressionLine limit t) ≡ false
   unfolding withoutRule
   no-rule = go (d .rules)
@@ -122,9 +125,11 @@ module _ (f starts ends tags : List ℕ) (c : NameCounts) (d : Declared) (ns : N
     row-4 : outOfOrder d (expressionLine limit t) ≡ false
     row-4 = in-order f starts ends tags c d ns group g (expressionLine limit t) 7 group-7 no-rule p4
 
-    pub goal-8 : badCountsOf group 7 (c .subjects) (c .objects) (c .actions) ≡ true → (j : Goal) → (j .number ≡ 8) × (j .place ≡ 0) × (j .limit ≡ limit) → GoalJudged d limit t j
+    pub goal-8 : badCountsOf group 7 (c .subjects) (c .objects) (c .actions) ≡ true → (j : Goal) → (j .number ≡ 8) × (j .place ≡ 0) × (j .limit ≡ limit)
+        → GoalJudged d limit t j
     goal-8 h j e =
-        judged-no d limit t 8 0 (omega arith) (meets-8 d _ row-4 (counted f starts ends tags c d ns group g (expressionLine limit t) 7 true group-7 h)) j (e .0) (e .1) (e .2)
+        judged-no d limit t 8 0 (omega arith) (meets-8 d _ row-4 (counted f starts ends tags c d ns group g (expressionLine limit t) 7 true group-7 h)) j
+        (e .0) (e .1) (e .2)
 
     module _ (p8 : badCountsOf group 7 (c .subjects) (c .objects) (c .actions) ≡ false) where
       row-8 : badCounts d (expressionLine limit t) ≡ false
@@ -148,7 +153,8 @@ module _ (f starts ends tags : List ℕ) (c : NameCounts) (d : Declared) (ns : N
 
         pub goal-12 : {e : ℕ} → m .answer ≡ Bad e → (p : Program) → GoalJudged d limit t (record { number = 12; place = e; limit = limit; program = p })
         unfolding notOfGrammar
-        goal-12 {e} q p = judged-no d limit t 12 e (omega arith) (in-rows (wrong e) (told-bad (lookup d) t m (reading t) e said q) ∙ first-met 12 e _ _ refl) _ refl refl refl
+        goal-12 {e} q p =
+            judged-no d limit t 12 e (omega arith) (in-rows (wrong e) (told-bad (lookup d) t m (reading t) e said q) ∙ first-met 12 e _ _ refl) _ refl refl refl
 
         module _ {n : ℕ} (q : m .answer ≡ Good n) where
           whole : Whole (lookup d) (reading t) (m .program)
@@ -157,7 +163,8 @@ module _ (f starts ends tags : List ℕ) (c : NameCounts) (d : Declared) (ns : N
           abbrev tree : Tree Scope
           tree = treeOf (lookup d) (whole .expression)
 
-          past-12 : first (rows d (expressionLine limit t)) ≡ first (row 13 (nameNotDeclared d (read (whole .expression))) ∷ row 14 (if (tooLarge d (read (whole .expression)))) ∷ [])
+          past-12 : first (rows d (expressionLine limit t))
+              ≡ first (row 13 (nameNotDeclared d (read (whole .expression))) ∷ row 14 (if (tooLarge d (read (whole .expression)))) ∷ [])
           unfolding notOfGrammar
           past-12 = in-rows (read (whole .expression)) (whole .is) ∙ first-passed 12 _ _ refl
 
@@ -165,14 +172,16 @@ module _ (f starts ends tags : List ℕ) (c : NameCounts) (d : Declared) (ns : N
           unfolding nameNotDeclared isDeclared
           missing-at = sym (whole .yields .missing-is)
 
-          pub goal-13 : {i : ℕ} → m .program .missing ≡ At i → (p : Program) → GoalJudged d limit t (record { number = 13; place = i; limit = limit; program = p })
+          pub goal-13 : {i : ℕ} → m .program .missing ≡ At i → (p : Program)
+              → GoalJudged d limit t (record { number = 13; place = i; limit = limit; program = p })
           goal-13 {i} h p = judged-no d limit t 13 i (omega arith) (past-12 ∙ first-met 13 i _ _ (missing-at ∙ ap placeOf h)) _ refl refl refl
 
           module _ (h : m .program .missing ≡ Nowhere) where
             past-13 : first (rows d (expressionLine limit t)) ≡ first (row 14 (if (tooLarge d (read (whole .expression)))) ∷ [])
             past-13 = past-12 ∙ first-passed 13 _ _ (missing-at ∙ ap placeOf h)
 
-            too-large : tooLarge d (read (whole .expression)) ≡ true → (p : Program) → GoalJudged d limit t (record { number = 14; place = 0; limit = limit; program = p })
+            too-large : tooLarge d (read (whole .expression)) ≡ true → (p : Program)
+                → GoalJudged d limit t (record { number = 14; place = 0; limit = limit; program = p })
             too-large e p = judged-no d limit t 14 0 (omega arith) (past-13 ∙ first-met 14 0 _ _ (if-true e)) _ refl refl refl
 
             pub goal-held : 14 < m .program .held → (p : Program) → GoalJudged d limit t (record { number = 14; place = 0; limit = limit; program = p })
@@ -183,14 +192,19 @@ module _ (f starts ends tags : List ℕ) (c : NameCounts) (d : Declared) (ns : N
               few-held : held tree ≤ 14
               few-held = let y = whole .yields .held-are in omega arith
 
-              pub goal-operators : 64 < m .program .operators → (p : Program) → GoalJudged d limit t (record { number = 14; place = 0; limit = limit; program = p })
+              pub goal-operators : 64 < m .program .operators → (p : Program)
+                  → GoalJudged d limit t (record { number = 14; place = 0; limit = limit; program = p })
               unfolding tooLarge
-              goal-operators x = too-large (rw (le-ltb 14 (held tree) few-held, lt-ltb 64 (operators tree) (let y = whole .yields .operators-are in omega arith)))
+              goal-operators x = too-large (rw (
+                le-ltb 14 (held tree) few-held,
+                lt-ltb 64 (operators tree) (let y = whole .yields .operators-are in omega arith),
+              ))
 
               pub goal-good : m .program .operators ≤ 64 → GoalJudged d limit t (record { number = 0; place = 0; limit = limit; program = m .program })
               unfolding tooLarge first
               goal-good x = record {
-                verdict = past-13 ∙ first-passed 14 (if (tooLarge d (read (whole .expression)))) [] (if-false (rw (le-ltb 14 (held tree) few-held, le-ltb 64 (operators tree) few-operators)));
+                verdict = past-13 ∙ first-passed 14 (if (tooLarge d (read (whole .expression)))) []
+                    (if-false (rw (le-ltb 14 (held tree) few-held, le-ltb 64 (operators tree) few-operators)));
                 limit-is = refl;
                 good = λ z. record {
                   expression = whole .expression;

@@ -35,7 +35,8 @@ given table i w x = sure (any (eqb x) (grantsOf 57344 table i w))
 
 -- what the i-th adds
 module _ (table i : ℕ) (w : List ℕ) (x : ℕ) where
-  grants-more : any (eqb x) (grantsOf 57344 table (i + 1) w) ≡ (any (eqb x) (grantsOf 57344 table i w) || any (eqb x) (only (eqb (grantAt 57344 w i / 4096) table) (grantAt 57344 w i % 4096 ∷ [])))
+  grants-more : any (eqb x) (grantsOf 57344 table (i + 1) w)
+      ≡ (any (eqb x) (grantsOf 57344 table i w) || any (eqb x) (only (eqb (grantAt 57344 w i / 4096) table) (grantAt 57344 w i % 4096 ∷ [])))
   unfolding grantsOf
   grants-more =
       let f : ℕ → List ℕ = λ i. only (eqb (grantAt 57344 w i / 4096) table) (grantAt 57344 w i % 4096 ∷ []) in
@@ -44,14 +45,23 @@ module _ (table i : ℕ) (w : List ℕ) (x : ℕ) where
 
   -- another table's
   grants-miss : (grantAt 57344 w i / 4096 ≡ table → ⊥) → given table (i + 1) w x ≡ given table i w x
-  grants-miss h = let e : any (eqb x) (grantsOf 57344 table (i + 1) w) ≡ any (eqb x) (grantsOf 57344 table i w) = rw (grants-more, ne-eqb (grantAt 57344 w i / 4096) table h) (or-false (any (eqb x) (grantsOf 57344 table i w))) in ap sure e
+  grants-miss h =
+      let e : any (eqb x) (grantsOf 57344 table (i + 1) w) ≡ any (eqb x) (grantsOf 57344 table i w) =
+      rw (grants-more, ne-eqb (grantAt 57344 w i / 4096) table h) (or-false (any (eqb x) (grantsOf 57344 table i w))) in
+      ap sure e
 
   -- of another access
   grants-other : grantAt 57344 w i / 4096 ≡ table → (x ≡ grantAt 57344 w i % 4096 → ⊥) → given table (i + 1) w x ≡ given table i w x
-  grants-other h h′ = let e : any (eqb x) (grantsOf 57344 table (i + 1) w) ≡ any (eqb x) (grantsOf 57344 table i w) = rw (grants-more, eq-eqb (grantAt 57344 w i / 4096) table h, ne-eqb x (grantAt 57344 w i % 4096) h′) (or-false (any (eqb x) (grantsOf 57344 table i w))) in ap sure e
+  grants-other h h′ =
+      let e : any (eqb x) (grantsOf 57344 table (i + 1) w) ≡ any (eqb x) (grantsOf 57344 table i w) = rw
+      (grants-more, eq-eqb (grantAt 57344 w i / 4096) table h, ne-eqb x (grantAt 57344 w i % 4096) h′) (or-false (any (eqb x) (grantsOf 57344 table i w))) in
+      ap sure e
 
   grants-hit : grantAt 57344 w i / 4096 ≡ table → x ≡ grantAt 57344 w i % 4096 → given table (i + 1) w x ≡ permit
-  grants-hit h h′ = let e : any (eqb x) (grantsOf 57344 table (i + 1) w) ≡ true = rw (grants-more, eq-eqb (grantAt 57344 w i / 4096) table h, eq-eqb x (grantAt 57344 w i % 4096) h′) (or-true (any (eqb x) (grantsOf 57344 table i w))) in ap sure e
+  grants-hit h h′ =
+      let e : any (eqb x) (grantsOf 57344 table (i + 1) w) ≡ true = rw
+      (grants-more, eq-eqb (grantAt 57344 w i / 4096) table h, eq-eqb x (grantAt 57344 w i % 4096) h′) (or-true (any (eqb x) (grantsOf 57344 table i w))) in
+      ap sure e
 
 -- ---- one turn: w₀ is the memory where the loop begins, w where the turn does, and g the grant
 
@@ -67,7 +77,8 @@ module _ (table k n i : ℕ) (w₀ w : List ℕ) (room : Room k n w₀) (at : w 
 
   pub turn-beyond : g / 4096 ≡ table → n ≤ g % 4096 → w ≡ putSet k n (given table (i + 1) w₀) w₀
   turn-beyond h l =
-      at ∙ putSet-cong k n _ _ w₀ (λ x b. sym (grants-other table i w₀ x (same-table h) (λ e. let q : g % 4096 ≡ grantAt 57344 w₀ i % 4096 = ap (λ g. g % 4096) grant-is in omega arith)))
+      at ∙ putSet-cong k n _ _ w₀ (λ x b. sym (grants-other table i w₀ x (same-table h)
+      (λ e. let q : g % 4096 ≡ grantAt 57344 w₀ i % 4096 = ap (λ g. g % 4096) grant-is in omega arith)))
 
   pub turn-hit : g / 4096 ≡ table → g % 4096 < n → set w (k * 4096 + g % 4096) 2 ≡ putSet k n (given table (i + 1) w₀) w₀
   turn-hit h l =

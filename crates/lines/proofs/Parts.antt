@@ -97,7 +97,8 @@ module _ (w : List ℕ) where
 
   pub name-short : isName w ≡ true → length w ≤ 24
   unfolding isName
-  name-short e = leb-true (length w) 24 (and-right (isLetter (getD w 0 0) && areNameBytes w) (leb (length w) 24) (and-left (isLetter (getD w 0 0) && areNameBytes w && leb (length w) 24) (noSort (sortWord w)) e))
+  name-short e = leb-true (length w) 24 (and-right (isLetter (getD w 0 0) && areNameBytes w) (leb (length w) 24)
+      (and-left (isLetter (getD w 0 0) && areNameBytes w && leb (length w) 24) (noSort (sortWord w)) e))
 
 -- a part that holds a name is short
 pub named-part : (f : List ℕ) (p : Part) → Within f p → isName (textOf f p) ≡ true → Named f p

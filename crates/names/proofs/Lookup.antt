@@ -18,23 +18,8 @@ use Rattle.name_index.specs.Index.{search}
 use Rattle.name_index.specs.Parts.{nameAt, namesAt, Parts, slotsAt, Slots, putAt, foundOf, lookedOf, LooksUp}
 use Rattle.name_index.specs.declared.Lookup.{Lookup}
 use Rattle.name_index.proofs.Parts.{looked-up, indexed-slots}
-use Rattle.names.specs.Entries.{
-  Entry,
-  entryAt,
-  entries,
-  isTagged,
-  isEntry,
-  Group,
-  Sound,
-  sortNumber,
-  memberBase,
-  memberCount,
-  memberNames,
-  slotBase,
-  spanOf,
-  lookupIn,
-  kindOf,
-}
+use Rattle.names.specs.Entries.{Entry, entryAt, entries, isTagged, isEntry, Group, Sound, sortNumber, memberBase, memberCount, memberNames, slotBase}
+use Rattle.names.specs.Entries.{spanOf, lookupIn, kindOf}
 use Rattle.names.specs.declared.NameKind.{NameKind}
 use Rattle.names.specs.declared.NameKind.the-variants.{Member, Predicate}
 use Rattle.names.specs.declared.NameCounts.{NameCounts}
@@ -51,7 +36,8 @@ module _ (wanted : ℕ) (n : List ℕ) (e : Entry) where
   entry-named h q = q ∙ rw h
 
 -- entry k of a group, by itself
-pub group-one : (f starts ends tags : List ℕ) (base count k : ℕ) → Group f starts ends tags base count → base ≤ k → k < base + count → Group f starts ends tags k 1
+pub group-one : (f starts ends tags : List ℕ) (base count k : ℕ) → Group f starts ends tags base count → base ≤ k → k < base + count
+    → Group f starts ends tags k 1
 group-one f starts ends tags base count k g h l =
     record {
       in-starts = omega (arith, g .in-starts);
@@ -77,7 +63,8 @@ module _ {A : Type 0} (p : A → Bool) (e : ℕ → A) (base count : ℕ) where
     one-more : i < count → count - i ≡ suc (count - suc i)
     one-more h = omega arith
 
-    at-entry : i < count → position p (tabFrom base count e) ≡ elim (p (e k)) [ true ↦ some i | false ↦ positionFrom (suc i) p (tabFrom (suc k) (count - suc i) e) ]
+    at-entry : i < count
+        → position p (tabFrom base count e) ≡ elim (p (e k)) [ true ↦ some i | false ↦ positionFrom (suc i) p (tabFrom (suc k) (count - suc i) e) ]
     unfolding positionFrom
     at-entry h = x .left ∙ rw (one-more h)
 
@@ -132,7 +119,8 @@ module _ (f starts ends tags : List ℕ) (c : NameCounts) where
   pub span-at : Sound f starts ends tags c → (k : Kind) (g : Span) → g ≡ spanOf c k → Group f starts ends tags (g .base) (g .count)
   span-at S k g e = subst (λ (x : Span). Group f starts ends tags (x .base) (x .count)) (sym e) (span-group S k)
 
-  pub looked : (k : Kind) (n : List ℕ) (g : Span) {o : Option ℕ} → g ≡ spanOf c k → o ≡ position (isEntry (g .wanted) n) (entries f starts ends tags (g .base) (g .count)) → o ≡ lookupIn f starts ends tags c k n
+  pub looked : (k : Kind) (n : List ℕ) (g : Span) {o : Option ℕ} → g ≡ spanOf c k
+      → o ≡ position (isEntry (g .wanted) n) (entries f starts ends tags (g .base) (g .count)) → o ≡ lookupIn f starts ends tags c k n
   unfolding lookupIn
   looked k n g e h = h ∙ ap (λ (x : Span). position (isEntry (x .wanted) n) (entries f starts ends tags (x .base) (x .count))) e
 

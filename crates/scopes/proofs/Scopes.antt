@@ -98,7 +98,8 @@ pub stored-compared : (c : StoredScope) → (c .kind ≡ 6 → ⊥) → storedSc
 unfolding storedScope
 stored-compared c e = rw (ne-eqb (c .kind) 6 e, storedScope)
 
-module _ (t : List ℕ) (c : StoredScope) (ok : Coded c) (m : ℕ) (fr : Frame) (z : Counts) (y : ℕ) (st : Stands fr z t) (nm : Names fr (storedScope c)) (pt : part fr (storedSort (c .sort)) y ≡ m) (less : m < members fr (storedSort (c .sort))) where
+module _ (t : List ℕ) (c : StoredScope) (ok : Coded c) (m : ℕ) (fr : Frame) (z : Counts) (y : ℕ) (st : Stands fr z t) (nm : Names fr (storedScope c))
+    (pt : part fr (storedSort (c .sort)) y ≡ m) (less : m < members fr (storedSort (c .sort))) where
   -- a comparison
   module _ (op : Op) (is-op : storedOp (c .kind) ≡ op) (no-mark : c .kind ≡ 6 → ⊥) where
     is-compared : storedScope c ≡ compared (storedSort (c .sort)) op (c .x)
@@ -114,11 +115,13 @@ module _ (t : List ℕ) (c : StoredScope) (ok : Coded c) (m : ℕ) (fr : Frame) 
 
     -- the byte of the member against the scope's; n is the scope's sort
     up : (n b : ℕ) → n ≡ c .sort → b ≡ getD t (n * 4096 + m * 64 + c .x) 0 → b ≡ orderByte (parents fr (storedSort (c .sort))) m (c .x)
-    up n b e q = q ∙ ap (λ i. getD t (i + m * 64 + c .x) 0) (ap (λ n. n * 4096) e ∙ table-at (c .sort) (ok .last-sort)) ∙ st .orders (storedSort (c .sort)) m (c .x) less x-lt
+    up n b e q = q ∙ ap (λ i. getD t (i + m * 64 + c .x) 0) (ap (λ n. n * 4096) e ∙ table-at (c .sort) (ok .last-sort))
+        ∙ st .orders (storedSort (c .sort)) m (c .x) less x-lt
 
     -- and of the scope's against the member
     down : (n b : ℕ) → n ≡ c .sort → b ≡ getD t (n * 4096 + c .x * 64 + m) 0 → b ≡ orderByte (parents fr (storedSort (c .sort))) (c .x) m
-    down n b e q = q ∙ ap (λ i. getD t (i + c .x * 64 + m) 0) (ap (λ n. n * 4096) e ∙ table-at (c .sort) (ok .last-sort)) ∙ st .orders (storedSort (c .sort)) (c .x) m x-lt less
+    down n b e q = q ∙ ap (λ i. getD t (i + c .x * 64 + m) 0) (ap (λ n. n * 4096) e ∙ table-at (c .sort) (ok .last-sort))
+        ∙ st .orders (storedSort (c .sort)) (c .x) m x-lt less
 
   -- the five comparisons and the predicate, b being the byte that the code reads
   pub passes-le : (n b : ℕ) → n ≡ c .sort → b ≡ getD t (n * 4096 + m * 64 + c .x) 0 → c .kind ≡ 1 → not (eqb b 0) ≡ inScope fr (storedScope c) y
@@ -157,7 +160,8 @@ module _ (t : List ℕ) (c : StoredScope) (ok : Coded c) (m : ℕ) (fr : Frame) 
   unfolding inScope Names
   passes-mark b q k =
       let e : storedScope c ≡ marked (storedSort (c .sort)) (c .x) = stored-mark c k in
-      ap (λ v. eqb v 1) (q ∙ st .marks (storedSort (c .sort)) (c .x) m (subst (Names fr) e nm) less) ∙ flag-one _ ∙ ap (isMarked fr (storedSort (c .sort)) (c .x)) (sym pt) ∙ ap (λ s. inScope fr s y) (sym e)
+      ap (λ v. eqb v 1) (q ∙ st .marks (storedSort (c .sort)) (c .x) m (subst (Names fr) e nm) less) ∙ flag-one _
+      ∙ ap (isMarked fr (storedSort (c .sort)) (c .x)) (sym pt) ∙ ap (λ s. inScope fr s y) (sym e)
 
 -- ---- a walk over the accesses
 
@@ -165,16 +169,19 @@ module _ (t : List ℕ) (c : StoredScope) (ok : Coded c) (m : ℕ) (fr : Frame) 
 abbrev pub keepAt : (ℕ → Bool) → ℕ → ℕ → List ℕ → List ℕ
 keepAt p k x l = set l (k * 4096 + x) (cond (p x) (getD l (k * 4096 + x) 0) 0)
 
-kept : (p : ℕ → Bool) (k n : ℕ) (w : List ℕ) → k * 4096 + n ≤ length w → Answers k n w → (j : ℕ) → j ≤ n → turns j (keepAt p k) w ≡ putSet k j (λ x. keep (p x) (answerAt k w x)) w
+kept : (p : ℕ → Bool) (k n : ℕ) (w : List ℕ) → k * 4096 + n ≤ length w → Answers k n w → (j : ℕ) → j ≤ n
+    → turns j (keepAt p k) w ≡ putSet k j (λ x. keep (p x) (answerAt k w x)) w
 kept p k n w fits ans zero h = putSet-none k (λ x. keep (p x) (answerAt k w x)) w (omega arith)
 kept p k n w fits ans (suc j) h =
     let e = kept p k n w fits ans j (omega arith) in
     let f : ℕ → Answer = λ x. keep (p x) (answerAt k w x) in
     let b : cond (p j) (getD (turns j (keepAt p k) w) (k * 4096 + j) 0) 0 ≡ byte (f j) =
-    ap (λ v. cond (p j) v 0) (unreached k j f w (turns j (keepAt p k) w) (k * 4096 + j) (omega arith) e (omega arith) ∙ sym (byte-answerOf (byteAt k w j) (ans j (omega arith)))) ∙ sym (byte-keep (answerAt k w j) (p j)) in
+    ap (λ v. cond (p j) v 0) (unreached k j f w (turns j (keepAt p k) w) (k * 4096 + j) (omega arith) e (omega arith)
+    ∙ sym (byte-answerOf (byteAt k w j) (ans j (omega arith)))) ∙ sym (byte-keep (answerAt k w j) (p j)) in
     putSet-more k j f w (turns j (keepAt p k) w) _ (omega arith) e b ∙ ap (λ n. putSet k n f w) (add-one j)
 
-pub keep-turn : (p : ℕ → Bool) (k n x : ℕ) (w : List ℕ) (inside : Bool) (v : ℕ) → x ≡ n → inside ≡ p n → v ≡ cond inside (getD w (k * 4096 + x) 0) 0 → set w (k * 4096 + x) v ≡ keepAt p k n w
+pub keep-turn : (p : ℕ → Bool) (k n x : ℕ) (w : List ℕ) (inside : Bool) (v : ℕ) → x ≡ n → inside ≡ p n → v ≡ cond inside (getD w (k * 4096 + x) 0) 0
+    → set w (k * 4096 + x) v ≡ keepAt p k n w
 keep-turn p k n x w inside v e i q = rw (q, i, e) refl
 
 -- the walk by subjects, objects and actions
@@ -191,8 +198,8 @@ bySubject p k z s = turns (z .objects) (byObject p k z s)
 abbrev pub Each : Counts → List ℕ → StoredScope → ((ℕ → Bool) → Type 0) → Type 0
 Each z t c P = (fr : Frame) → Stands fr z t → Names fr (storedScope c) → P (inScope fr (storedScope c))
 
-pub walked : (fr : Frame) (k : ℕ) (z : Counts) (t : List ℕ) (p : ℕ → Bool) (w : List ℕ) → Stands fr z t → k * 4096 + total z ≤ length w → Answers k (accesses fr) w
-    → turns (z .subjects) (bySubject p k z) w ≡ putSet k (accesses fr) (λ x. keep (p x) (answerAt k w x)) w
+pub walked : (fr : Frame) (k : ℕ) (z : Counts) (t : List ℕ) (p : ℕ → Bool) (w : List ℕ) → Stands fr z t → k * 4096 + total z ≤ length w
+    → Answers k (accesses fr) w → turns (z .subjects) (bySubject p k z) w ≡ putSet k (accesses fr) (λ x. keep (p x) (answerAt k w x)) w
 walked fr k z t p w d fits ans =
     let e : accesses fr ≡ total z = rw (d .counts subject, d .counts object, d .counts action) in
     turns-three (z .subjects) (z .objects) (z .actions) (keepAt p k) w

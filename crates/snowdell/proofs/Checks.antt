@@ -21,9 +21,16 @@ check-no f k l p e = ap checked (sym e)
 -- the frame's members are those that the state counts
 pub counted : (f w : List ℕ) (r : Reading) (G : ReadGood f w r) (σ : Sort) → members (frameOf (G .declared)) σ ≡ memberCount (r .state .counts) σ
 unfolding policyOf count
-counted f w r G σ = file-sane f _ (G .outcome) .counted σ ∙ count-is f (r .state .starts) (r .state .ends) (r .state .tags) (r .state .counts) (G .declared) (G .stands .names) σ
+counted f w r G σ = file-sane f _ (G .outcome) .counted σ
+    ∙ count-is f (r .state .starts) (r .state .ends) (r .state .tags) (r .state .counts) (G .declared) (G .stands .names) σ
 
-pub check-yes : (f w : List ℕ) (r : Reading) → ReadGood f w r
-    → record { number = 0; line = 0; place = 0; subjects = r .state .counts .subjects; objects = r .state .counts .objects; actions = r .state .counts .actions } ≡ check f
+pub check-yes : (f w : List ℕ) (r : Reading) → ReadGood f w r → record {
+  number = 0;
+  line = 0;
+  place = 0;
+  subjects = r .state .counts .subjects;
+  objects = r .state .counts .objects;
+  actions = r .state .counts .actions;
+} ≡ check f
 unfolding check checked policyOf
 check-yes f w r G = rw (← counted f w r G subject, ← counted f w r G object, ← counted f w r G action) (ap checked (sym (G .outcome)))

@@ -28,7 +28,8 @@ promised f says is = record {
 }
 
 -- the equation, and what follows from it
-pub compose-promises : (f r m : List ℕ) (c : Composed) (r′ m′ : List ℕ) → composedOf c r′ m′ ≡ compose f r m → (composedOf c r′ m′ ≡ compose f r m) × Promised f (composeSays c r′)
+pub compose-promises : (f r m : List ℕ) (c : Composed) (r′ m′ : List ℕ) → composedOf c r′ m′ ≡ compose f r m
+    → (composedOf c r′ m′ ≡ compose f r m) × Promised f (composeSays c r′)
 compose-promises f r m c r′ m′ e = (e, promised f (composeSays c r′) says)
   where
     says : (x b : ℕ) → composeSays c r′ x b → Says f x b
@@ -40,7 +41,8 @@ compose-promises f r m c r′ m′ e = (e, promised f (composeSays c r′) says)
       is-byte = ap (λ (y : Calls.Composed). getD (y .result) x 0) (sym e) ∙ h .2;
     })
 
-pub decide-promises : (f s o a m : List ℕ) (c : Decided) (m′ : List ℕ) → decidedOf c m′ ≡ decide f s o a m → (decidedOf c m′ ≡ decide f s o a m) × Promised f (decideSays f s o a c)
+pub decide-promises : (f s o a m : List ℕ) (c : Decided) (m′ : List ℕ) → decidedOf c m′ ≡ decide f s o a m
+    → (decidedOf c m′ ≡ decide f s o a m) × Promised f (decideSays f s o a c)
 decide-promises f s o a m c m′ e = (e, promised f (decideSays f s o a c) says)
   where
     says : (x b : ℕ) → decideSays f s o a c x b → Says f x b

@@ -57,7 +57,8 @@ names-stand f starts ends tags c d N = record {
 
 -- ---- verdicts taken apart
 
-pub member-no : (d : Declared) (σ : Sort) (n : List ℕ) (k : ℕ) → MemberJudged d σ n k → (k ≡ 0 → ⊥) → (p : Option (List ℕ)) → first (rows d (memberLine σ n p)) ≡ refuse k 0
+pub member-no : (d : Declared) (σ : Sort) (n : List ℕ) (k : ℕ) → MemberJudged d σ n k → (k ≡ 0 → ⊥) → (p : Option (List ℕ))
+    → first (rows d (memberLine σ n p)) ≡ refuse k 0
 member-no d σ n k (member-refused h) ne p = h p
 member-no d σ n k (member-passes a b r) ne p = absurd (ne refl)
 
@@ -119,7 +120,8 @@ pub table-no : (d : Declared) (t : List ℕ) (h : Bool) (k : ℕ) → TableJudge
 table-no d t h k (table-refused e) ne = e
 table-no d t h k (table-passes e r) ne = absurd (ne refl)
 
-pub table-yes : (d : Declared) (t : List ℕ) (h : Bool) (k : ℕ) → TableJudged d t h k → k ≡ 0 → (first (rows d (tableLine t h)) ≡ good) × (length (d .tables) < 16)
+pub table-yes : (d : Declared) (t : List ℕ) (h : Bool) (k : ℕ) → TableJudged d t h k → k ≡ 0
+    → (first (rows d (tableLine t h)) ≡ good) × (length (d .tables) < 16)
 table-yes d t h k (table-refused e) z = absurd (let r = rows-number d (tableLine t h) k 0 e in omega arith)
 table-yes d t h k (table-passes e r) z = (e, r)
 
@@ -139,8 +141,8 @@ few-after f w st d S l e h =
         ∙ ap (λ (x : ℕ). badCountsOf x (groupOf l) (st .counts .subjects) (st .counts .objects) (st .counts .actions)) (sym g)
 
 pub table-line-as : (f w : List ℕ) (st : State) (d : Declared) (S : Stands f w st d) (from to : ℕ) (h : Bool) → from ≤ to → to ≤ length f
-    → (first (rows d (tableLine (slice from to f) h)) ≡ good) × (length (d .tables) < 16)
-    → (k i tag : ℕ) (c : NameCounts) (st′ : State) → k ≡ st .counts .tables → i ≡ 160 + k → tag ≡ flag h → c ≡ moreTables (st .counts) → st′ ≡ placedOf st i from to tag c 4
+    → (first (rows d (tableLine (slice from to f) h)) ≡ good) × (length (d .tables) < 16) → (k i tag : ℕ) (c : NameCounts) (st′ : State)
+    → k ≡ st .counts .tables → i ≡ 160 + k → tag ≡ flag h → c ≡ moreTables (st .counts) → st′ ≡ placedOf st i from to tag c 4
     → LineJudged f w d (tableLine (slice from to f) h) (record { number = 0; state = st′ })
 unfolding groupOf tableEntry
 table-line-as f w st d S from to h order in-file r k i tag c st′ ek ei et ec es =
@@ -157,7 +159,10 @@ table-line-as f w st d S from to h order in-file r k i tag c st′ ek ei et ec e
     room = let n = tables-are f (st .starts) (st .ends) (st .tags) (st .counts) d (S .names) in let q = r .1 in omega arith
 
     early : st .group < 5
-    early = let e = no-earlier d (tableLine (slice from to f) h) (good-rows d (tableLine (slice from to f) h) (r .0) .row-4) in let g = S .is-group in omega arith
+    early =
+        let e = no-earlier d (tableLine (slice from to f) h) (good-rows d (tableLine (slice from to f) h) (r .0) .row-4) in
+        let g = S .is-group in
+        omega arith
 
 pub member-small : (c : NameCounts) → Few c → (σ : Sort) (i : ℕ) → i < memberCount c σ → i < 64
 member-small c few subject i h = let k = few .subjects in omega arith

@@ -31,10 +31,13 @@ same-length c = search needs
 
 returns : tie.Need-returns
 returns c =
-    let a = c .before .before .before .before .before .before .args in
+    let closure = c .before .before .closure in
+    let start = c .before .before .before .before .before .before in
+    let a = start .args in
     let m : a .k * 4096 + a .size - a .k * 4096 ≡ a .size = omega arith in (
-      c .before .before .closure .ensures .0,
-      λ fr st. closed-at fr (a .set) (a .limit) (a .k) (a .k * 4096 + a .size - a .k * 4096) (a .w .now) (c .before .before .closure .last .0) _ (m ∙ c .before .before .before .before .before .before .pre .1 .set ∙ sym (accesses-total fr (a .n) (a .t .now) (st .stands))) (c .before .before .closure .ensures .1 fr st),
+      closure .ensures .0,
+      λ fr st. closed-at fr (a .set) (a .limit) (a .k) (a .k * 4096 + a .size - a .k * 4096) (a .w .now) (closure .last .0) _
+          (m ∙ start .pre .1 .set ∙ sym (accesses-total fr (a .n) (a .t .now) (st .stands))) (closure .ensures .1 fr st),
     )
 
 pub close-set-spec : {M : Type 1} → statement M

@@ -13,19 +13,29 @@ returns : tie.Need-returns
 returns c = after-table (c .before .before .args .c) (c .before .before .args .height) (c .if1 .taken)
 
 sub-result : tie.Need-sub-result
-sub-result c = omega (arith, after-two (c .before .before .before .before .args .c) (c .before .before .before .before .args .height) (c .before .before .if1 .left) (c .if2 .taken), c .before .before .before .before .pre .least)
+sub-result c =
+    let start = c .before .before .before .before in
+    omega (arith, after-two (start .args .c) (start .args .height) (c .before .before .if1 .left) (c .if2 .taken), start .pre .least)
 
 returns-2 : tie.Need-returns-2
-returns-2 c = sym (after-two (c .before .before .before .before .args .c) (c .before .before .before .before .args .height) (c .before .before .if1 .left) (c .if2 .taken) .1)
+returns-2 c =
+    let start = c .before .before .before .before in
+    sym (after-two (start .args .c) (start .args .height) (c .before .before .if1 .left) (c .if2 .taken) .1)
 
 sub-result-2 : tie.Need-sub-result-2
-sub-result-2 c = omega (arith, after-override (c .before .before .before .before .before .before .args .c) (c .before .before .before .before .before .before .args .height) (c .if3 .taken), c .before .before .before .before .before .before .pre .least)
+sub-result-2 c =
+    let start = c .before .before .before .before .before .before in
+    omega (arith, after-override (start .args .c) (start .args .height) (c .if3 .taken), start .pre .least)
 
 returns-3 : tie.Need-returns-3
-returns-3 c = sym (after-override (c .before .before .before .before .before .before .args .c) (c .before .before .before .before .before .before .args .height) (c .if3 .taken) .1)
+returns-3 c =
+    let start = c .before .before .before .before .before .before in
+    sym (after-override (start .args .c) (start .args .height) (c .if3 .taken) .1)
 
 returns-4 : tie.Need-returns-4
-returns-4 c = sym (after-one (c .before .before .before .before .before .before .args .c) (c .before .before .before .before .before .before .args .height) (omega arith) .1)
+returns-4 c =
+    let start = c .before .before .before .before .before .before in
+    sym (after-one (start .args .c) (start .args .height) (omega arith) .1)
 
 pub height-after-spec : {M : Type 1} → statement M
 height-after-spec =

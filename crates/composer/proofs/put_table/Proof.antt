@@ -20,13 +20,17 @@ same-length : tie.Need-same-length
 same-length c = search needs
 
 returns : tie.Need-returns
-returns c = λ ts is. table-here _ _ _ _ _ _ _ _ ts is (c .before .before .before .before .before .wide .ensures .0) (c .before .before .before .before .if1 .taken) (c .before .before .fill-here .ensures)
+returns c =
+    let c4 = c .before .before .before .before in
+    λ ts is. table-here _ _ _ _ _ _ _ _ ts is (c4 .before .wide .ensures .0) (c4 .if1 .taken) (c .before .before .fill-here .ensures)
 
 same-length-2 : tie.Need-same-length-2
 same-length-2 c = search needs
 
 returns-2 : tie.Need-returns-2
-returns-2 c = λ ts is. table-away _ _ _ _ _ _ _ _ ts is (c .before .before .before .before .before .wide .ensures .0) (c .before .before .before .before .if1 .left) (c .before .before .fill-away .ensures)
+returns-2 c =
+    let c4 = c .before .before .before .before in
+    λ ts is. table-away _ _ _ _ _ _ _ _ ts is (c4 .before .wide .ensures .0) (c4 .if1 .left) (c .before .before .fill-away .ensures)
 
 pub put-table-spec : {M : Type 1} → statement M
 put-table-spec =

@@ -17,25 +17,51 @@ abbrev μ-loop : tie.MeasureT-loop
 μ-loop t₀ subjects objects actions marks i₀ t i = 1024 - i
 
 fill-order-requires : tie.Need-fill-order-requires Inv-loop μ-loop
-fill-order-requires c κs = ((omega arith, c .before .before .before .before .before .before .pre .0 .0, c .before .before .before .before .before .before .pre .1 .0 .0), c .before .before .before .before .before .before .pre .1 .1 .0)
+fill-order-requires c κs =
+    let pre = c .before .before .before .before .before .before .pre in
+    ((omega arith, pre .0 .0, pre .1 .0 .0), pre .1 .1 .0)
 
 fill-order-requires-2 : tie.Need-fill-order-requires-2 Inv-loop μ-loop
-fill-order-requires-2 c κs = ((omega arith, c .before .before .before .fill-order .kept .0 ∙ c .before .before .before .before .before .before .before .before .before .before .pre .0 .0, c .before .before .before .before .before .before .before .before .before .before .pre .1 .0 .1), c .before .before .before .before .before .before .before .before .before .before .pre .1 .1 .1)
+fill-order-requires-2 c κs =
+    let c3 = c .before .before .before in
+    let pre = c3 .before .before .before .before .before .before .before .pre in
+    ((omega arith, c3 .fill-order .kept .0 ∙ pre .0 .0, pre .1 .0 .1), pre .1 .1 .1)
 
 fill-order-requires-3 : tie.Need-fill-order-requires-3 Inv-loop μ-loop
-fill-order-requires-3 c κs = ((omega arith, c .before .before .before .fill-order2 .kept .0 ∙ c .before .before .before .before .before .before .before .fill-order .kept .0 ∙ c .before .before .before .before .before .before .before .before .before .before .before .before .before .before .pre .0 .0, c .before .before .before .before .before .before .before .before .before .before .before .before .before .before .pre .1 .0 .2), c .before .before .before .before .before .before .before .before .before .before .before .before .before .before .pre .1 .1 .2)
+fill-order-requires-3 c κs =
+    let c3 = c .before .before .before in
+    let c7 = c3 .before .before .before .before in
+    let pre = c7 .before .before .before .before .before .before .before .pre in
+    ((omega arith, c3 .fill-order2 .kept .0 ∙ c7 .fill-order .kept .0 ∙ pre .0 .0, pre .1 .0 .2), pre .1 .1 .2)
 
 loop-holds : tie.Need-loop-holds Inv-loop μ-loop
-loop-holds c = (omega arith, refl, put-none 12288 (λ i. getD (c .before .before .before .before .before .before .before .before .before .before .before .before .before .before .before .before .before .args .marks .now) i 0) (c .before .before .fill-order3 .last .0) (omega (arith, c .before .before .fill-order3 .kept .0, c .before .before .before .before .before .before .fill-order2 .kept .0, c .before .before .before .before .before .before .before .before .before .before .fill-order .kept .0, c .before .before .before .before .before .before .before .before .before .before .before .before .before .before .before .before .before .pre .0 .0)))
+loop-holds c =
+    let c2 = c .before .before in
+    let c6 = c2 .before .before .before .before in
+    let c10 = c6 .before .before .before .before in
+    let start = c10 .before .before .before .before .before .before .before in (
+      omega arith,
+      refl,
+      put-none 12288 (λ i. getD (start .args .marks .now) i 0) (c2 .fill-order3 .last .0)
+          (omega (arith, c2 .fill-order3 .kept .0, c6 .fill-order2 .kept .0, c10 .fill-order .kept .0, start .pre .0 .0)),
+    )
 
 shared-slice-read-t : tie.Need-shared-slice-read-t Inv-loop μ-loop
-shared-slice-read-t c = omega (arith, c .before .before .before .before .before .before .before .before .before .before .before .before .before .before .before .before .before .before .before .before .pre .0 .1)
+shared-slice-read-t c =
+    let start = c .before .before .before .before .before .before .before .before .before .before .before .before .before .before .before .before .before
+    .before .before .before in
+    omega (arith, start .pre .0 .1)
 
 add-t : tie.Need-add-t Inv-loop μ-loop
 add-t c = omega arith
 
 slice-write-t : tie.Need-slice-write-t Inv-loop μ-loop
-slice-write-t c = omega (arith, c .before .before .loop .inv .1, c .before .before .before .before .before .fill-order3 .kept .0, c .before .before .before .before .before .before .before .before .before .fill-order2 .kept .0, c .before .before .before .before .before .before .before .before .before .before .before .before .before .fill-order .kept .0, c .before .before .before .before .before .before .before .before .before .before .before .before .before .before .before .before .before .before .before .before .pre .0 .0)
+slice-write-t c =
+    let c5 = c .before .before .before .before .before in
+    let c9 = c5 .before .before .before .before in
+    let c13 = c9 .before .before .before .before in
+    let start = c13 .before .before .before .before .before .before .before in
+    omega (arith, c .before .before .loop .inv .1, c5 .fill-order3 .kept .0, c9 .fill-order2 .kept .0, c13 .fill-order .kept .0, start .pre .0 .0)
 
 add-i : tie.Need-add-i Inv-loop μ-loop
 add-i c = omega arith
@@ -44,13 +70,41 @@ loop-less : tie.Need-loop-less Inv-loop μ-loop
 loop-less c = omega arith
 
 loop-again : tie.Need-loop-again Inv-loop μ-loop
-loop-again c = (omega arith, length-set (c .before .before .loop .t) _ _ ∙ c .before .before .loop .inv .1, put-more 12288 (c .before .before .loop .i) (λ i. getD (c .before .before .before .before .before .before .before .before .before .before .before .before .before .before .before .before .before .before .before .before .args .marks .now) i 0) (c .before .before .before .before .before .fill-order3 .last .0) (c .before .before .loop .t) _ (omega (arith, c .before .before .before .before .before .fill-order3 .kept .0, c .before .before .before .before .before .before .before .before .before .fill-order2 .kept .0, c .before .before .before .before .before .before .before .before .before .before .before .before .before .fill-order .kept .0, c .before .before .before .before .before .before .before .before .before .before .before .before .before .before .before .before .before .before .before .before .pre .0 .0)) (c .before .before .loop .inv .2) refl)
+loop-again c =
+    let loop = c .before .before .loop in
+    let c5 = c .before .before .before .before .before in
+    let c9 = c5 .before .before .before .before in
+    let c13 = c9 .before .before .before .before in
+    let start = c13 .before .before .before .before .before .before .before in (
+      omega arith,
+      length-set (loop .t) _ _ ∙ loop .inv .1,
+      put-more 12288 (loop .i) (λ i. getD (start .args .marks .now) i 0) (c5 .fill-order3 .last .0) (loop .t) _
+          (omega (arith, c5 .fill-order3 .kept .0, c9 .fill-order2 .kept .0, c13 .fill-order .kept .0, start .pre .0 .0)) (loop .inv .2) refl,
+    )
 
 same-length : tie.Need-same-length Inv-loop μ-loop
-same-length c = c .before .loop .inv .1 ∙ c .before .before .before .before .fill-order3 .kept .0 ∙ c .before .before .before .before .before .before .before .before .fill-order2 .kept .0 ∙ c .before .before .before .before .before .before .before .before .before .before .before .before .fill-order .kept .0
+same-length c =
+    let c4 = c .before .before .before .before in
+    let c8 = c4 .before .before .before .before in
+    let c12 = c8 .before .before .before .before in
+    c .before .loop .inv .1 ∙ c4 .fill-order3 .kept .0 ∙ c8 .fill-order2 .kept .0 ∙ c12 .fill-order .kept .0
 
 returns : tie.Need-returns Inv-loop μ-loop
-returns c = let a = c .before .before .before .before .before .before .before .before .before .before .before .before .before .before .before .before .before .before .before .args in is-stored (a .subjects .now) (a .objects .now) (a .actions .now) (a .marks .now) (a .t .now) (c .before .before .before .before .before .before .before .before .before .before .before .before .fill-order .last .0) (c .before .before .before .before .before .before .before .before .fill-order2 .last .0) (c .before .before .before .before .fill-order3 .last .0) (c .before .loop .t) (c .before .before .before .before .before .before .before .before .before .before .before .before .fill-order .ensures) (c .before .before .before .before .before .before .before .before .fill-order2 .ensures) (c .before .before .before .before .fill-order3 .ensures) (put-done 12288 (c .before .loop .i) 1024 (λ i. getD (a .marks .now) i 0) (c .before .before .before .before .fill-order3 .last .0) (c .before .loop .t) (c .before .loop .inv .0) (omega arith) (c .before .loop .inv .2)) (c .before .before .before .before .fill-order3 .kept .0 ∙ c .before .before .before .before .before .before .before .before .fill-order2 .kept .0 ∙ c .before .before .before .before .before .before .before .before .before .before .before .before .fill-order .kept .0 ∙ c .before .before .before .before .before .before .before .before .before .before .before .before .before .before .before .before .before .before .before .pre .0 .0) (c .before .before .before .before .before .before .before .before .before .before .before .before .before .before .before .before .before .before .before .pre .1 .0 .0) (c .before .before .before .before .before .before .before .before .before .before .before .before .before .before .before .before .before .before .before .pre .1 .0 .1) (c .before .before .before .before .before .before .before .before .before .before .before .before .before .before .before .before .before .before .before .pre .1 .0 .2)
+returns c =
+    let loop = c .before .loop in
+    let c4 = c .before .before .before .before in
+    let fill-order3 = c4 .fill-order3 in
+    let c8 = c4 .before .before .before .before in
+    let fill-order2 = c8 .fill-order2 in
+    let c12 = c8 .before .before .before .before in
+    let fill-order = c12 .fill-order in
+    let start = c12 .before .before .before .before .before .before .before in
+    let pre = start .pre in
+    let a = start .args in
+    is-stored (a .subjects .now) (a .objects .now) (a .actions .now) (a .marks .now) (a .t .now) (fill-order .last .0) (fill-order2 .last .0)
+    (fill-order3 .last .0) (loop .t) (fill-order .ensures) (fill-order2 .ensures) (fill-order3 .ensures)
+    (put-done 12288 (loop .i) 1024 (λ i. getD (a .marks .now) i 0) (fill-order3 .last .0) (loop .t) (loop .inv .0) (omega arith) (loop .inv .2))
+    (fill-order3 .kept .0 ∙ fill-order2 .kept .0 ∙ fill-order .kept .0 ∙ pre .0 .0) (pre .1 .0 .0) (pre .1 .0 .1) (pre .1 .0 .2)
 
 pub tables-spec : {M : Type 1} → statement M
 tables-spec =

@@ -1,6 +1,8 @@
 use Rattle.words.specs.Contract.{signCode}
 use Rattle.words.proofs.Words.{seen, n-bounds}
-use Rattle.expressions.proofs.ReaderWays.{g-bad, g-good, g-open, g-in, h-first, h-second, h-third, h-good, p-full, p-bad, p-good, p-none, p-table, p-word, p-lone, p-full-2, p-override, f-bad, f-in, f-join, m-first, m-end, m-in, m-bad, m-past, m-next, e-bad, e-in, e-join}
+use Rattle.expressions.proofs.ReaderWays.{g-bad, g-good, g-open, g-in, h-first, h-second, h-third, h-good, p-full, p-bad, p-good, p-none, p-table}
+use Rattle.expressions.proofs.ReaderWays.{p-word, p-lone, p-full-2, p-override, f-bad, f-in, f-join, m-first, m-end, m-in, m-bad, m-past, m-next, e-bad}
+use Rattle.expressions.proofs.ReaderWays.{e-in, e-join}
 use Rattle.words.proofs.Scopes.{byte-is, byte-isnt}
 use Rattle.grammar.proofs.Machine.{is-in}
 use borrow.Author.Needs.{needs}
@@ -128,7 +130,10 @@ expression-more-requires : (t : ℕ) → expression-lts.Need-more-requires (
   more-below t,
   more.Post,
 ) (expression-at t) expression.Post
-expression-more-requires t c κs = (search needs, (c .before .before .before .before .before .before .before .before .before .before .pre .1 .0, e-in _ _ _ _ _ _ (c .before .k2 .given .1) (c .before .before .before .before .factor .ensures)))
+expression-more-requires t c κs =
+    let c4 = c .before .before .before .before in
+    let start = c4 .before .before .before .before .before .before in
+    (search needs, (start .pre .1 .0, e-in _ _ _ _ _ _ (c .before .k2 .given .1) (c4 .factor .ensures)))
 
 expression-returns : (t : ℕ) → expression-lts.Need-returns (
   factor-below t,
@@ -144,7 +149,9 @@ expression-returns-2 : (t : ℕ) → expression-lts.Need-returns-2 (
   more-below t,
   more.Post,
 ) (expression-at t) expression.Post
-expression-returns-2 t c = e-join _ _ _ _ _ _ _ (c .before .before .k2 .given .1) (c .before .before .before .before .before .factor .ensures) _ (c .more .ensures)
+expression-returns-2 t c =
+    let c5 = c .before .before .before .before .before in
+    e-join _ _ _ _ _ _ _ (c .before .before .k2 .given .1) (c5 .factor .ensures) _ (c .more .ensures)
 
 factor-primary-requires : (t : ℕ) → factor-lts.Need-primary-requires (
   primary-below t,
@@ -176,7 +183,10 @@ factor-suffixes-requires : (t : ℕ) → factor-lts.Need-suffixes-requires (
   suffixes-reads.Asked,
   suffixes-reads.Learnt,
 ) (factor-at t) factor.Post
-factor-suffixes-requires t c κs = (c .before .before .before .before .before .before .before .before .before .before .pre .1 .0, f-in _ _ _ _ _ _ (c .before .k2 .given .1) (c .before .before .before .before .primary .ensures))
+factor-suffixes-requires t c κs =
+    let c4 = c .before .before .before .before in
+    let start = c4 .before .before .before .before .before .before in
+    (start .pre .1 .0, f-in _ _ _ _ _ _ (c .before .k2 .given .1) (c4 .primary .ensures))
 
 factor-returns : (t : ℕ) → factor-lts.Need-returns (
   primary-below t,
@@ -192,7 +202,9 @@ factor-returns-2 : (t : ℕ) → factor-lts.Need-returns-2 (
   suffixes-reads.Asked,
   suffixes-reads.Learnt,
 ) (factor-at t) factor.Post
-factor-returns-2 t c = f-join _ _ _ _ _ _ _ (c .before .before .k2 .given .1) (c .before .before .before .before .before .primary .ensures) _ (c .suffixes .ensures)
+factor-returns-2 t c =
+    let c5 = c .before .before .before .before .before in
+    f-join _ _ _ _ _ _ _ (c .before .before .k2 .given .1) (c5 .primary .ensures) _ (c .suffixes .ensures)
 
 abbrev more-Inv-loop : more-lts.InvT-loop
 more-Inv-loop t at allow f starts ends tags counts q₀ i₀ q i = ReadsMore (lookupIn f starts ends tags counts) t i₀ allow i q₀ q
@@ -246,7 +258,9 @@ more-returns : (t : ℕ) → more-lts.Need-returns (
   put-reads.Asked,
   put-reads.Learnt,
 ) (more-at t) more.Post more-Inv-loop more-μ-loop
-more-returns t c = m-end _ _ _ _ _ _ _ (c .before .before .before .loop .inv) (seen signCode (c .before .before .peek .ensures) (c .before .sign .ensures) (c .if1 .taken))
+more-returns t c =
+    let c3 = c .before .before .before in
+    m-end _ _ _ _ _ _ _ (c3 .loop .inv) (seen signCode (c .before .before .peek .ensures) (c .before .sign .ensures) (c .if1 .taken))
 
 more-add-factor : (t : ℕ) → more-lts.Need-add-factor (
   peek-reads.Asked,
@@ -270,7 +284,15 @@ more-factor-requires : (t : ℕ) → more-lts.Need-factor-requires (
   put-reads.Asked,
   put-reads.Learnt,
 ) (more-at t) more.Post more-Inv-loop more-μ-loop
-more-factor-requires t c κs = (search needs, (c .before .before .before .before .before .before .before .before .before .pre .1 .0, (let i = m-in _ _ _ _ _ _ _ (c .before .before .before .loop .inv) (c .before .before .peek .ensures) (c .before .sign .ensures) (c .if1 .left) in omega arith)))
+more-factor-requires t c κs =
+    let c3 = c .before .before .before in
+    let start = c3 .before .before .before .before .before .before in (
+      search needs,
+      (
+        start .pre .1 .0,
+        (let i = m-in _ _ _ _ _ _ _ (c3 .loop .inv) (c .before .before .peek .ensures) (c .before .sign .ensures) (c .if1 .left) in omega arith),
+      ),
+    )
 
 more-enum-known-k : (t : ℕ) → more-lts.Need-enum-known-k (
   peek-reads.Asked,
@@ -294,7 +316,11 @@ more-returns-2 : (t : ℕ) → more-lts.Need-returns-2 (
   put-reads.Asked,
   put-reads.Learnt,
 ) (more-at t) more.Post more-Inv-loop more-μ-loop
-more-returns-2 t c = m-bad _ _ _ _ _ _ _ (c .before .before .before .before .before .before .before .before .loop .inv) (c .before .before .before .before .before .before .before .peek .ensures) (c .before .before .before .before .before .before .sign .ensures) (c .before .before .before .before .before .if1 .left) _ _ (c .before .k .given .1) (c .before .before .before .before .factor .ensures)
+more-returns-2 t c =
+    let c4 = c .before .before .before .before in
+    let c7 = c4 .before .before .before in
+    m-bad _ _ _ _ _ _ _ (c7 .before .loop .inv) (c7 .peek .ensures) (c4 .before .before .sign .ensures) (c4 .before .if1 .left) _ _ (c .before .k .given .1)
+    (c4 .factor .ensures)
 
 more-enum-known-k-2 : (t : ℕ) → more-lts.Need-enum-known-k-2 (
   peek-reads.Asked,
@@ -330,7 +356,12 @@ more-loop-less : (t : ℕ) → more-lts.Need-loop-less (
   put-reads.Asked,
   put-reads.Learnt,
 ) (more-at t) more.Post more-Inv-loop more-μ-loop
-more-loop-less t c = let g = m-past _ _ _ _ _ _ _ (c .before .before .before .before .before .before .before .before .before .loop .inv) (c .before .before .before .before .before .before .before .before .peek .ensures) (c .before .before .before .before .before .before .before .sign .ensures) (c .before .before .before .before .before .before .if1 .left) _ (c .before .before .k2 .given .1) (c .before .before .before .before .before .factor .ensures) in omega arith
+more-loop-less t c =
+    let c5 = c .before .before .before .before .before in
+    let c8 = c5 .before .before .before in
+    let g = m-past _ _ _ _ _ _ _ (c8 .before .loop .inv) (c8 .peek .ensures) (c5 .before .before .sign .ensures) (c5 .before .if1 .left) _
+    (c .before .before .k2 .given .1) (c5 .factor .ensures) in
+    omega arith
 
 more-loop-again : (t : ℕ) → more-lts.Need-loop-again (
   peek-reads.Asked,
@@ -342,7 +373,11 @@ more-loop-again : (t : ℕ) → more-lts.Need-loop-again (
   put-reads.Asked,
   put-reads.Learnt,
 ) (more-at t) more.Post more-Inv-loop more-μ-loop
-more-loop-again t c = m-next _ _ _ _ _ _ _ (c .before .before .before .before .before .before .before .before .before .loop .inv) (c .before .before .before .before .before .before .before .before .peek .ensures) (c .before .before .before .before .before .before .before .sign .ensures) (c .before .before .before .before .before .before .if1 .left) _ _ (c .before .before .k2 .given .1) (c .before .before .before .before .before .factor .ensures) (c .put .ensures)
+more-loop-again t c =
+    let c5 = c .before .before .before .before .before in
+    let c8 = c5 .before .before .before in
+    m-next _ _ _ _ _ _ _ (c8 .before .loop .inv) (c8 .peek .ensures) (c5 .before .before .sign .ensures) (c5 .before .if1 .left) _ _
+    (c .before .before .k2 .given .1) (c5 .factor .ensures) (c .put .ensures)
 
 overridden-part-requires : (t : ℕ) → overridden-lts.Need-part-requires (
   part-below t,
@@ -382,7 +417,12 @@ overridden-part-requires-2 : (t : ℕ) → overridden-lts.Need-part-requires-2 (
   put-reads.Asked,
   put-reads.Learnt,
 ) (overridden-at t) overridden.Post
-overridden-part-requires-2 t c κs = (search needs, (c .before .before .before .before .before .before .before .before .before .before .pre .1 .0, (let g = g-in _ _ _ _ _ _ (c .before .k2 .given .1) (c .before .before .before .before .part .ensures) (lit< tt) in omega arith)))
+overridden-part-requires-2 t c κs =
+    let c4 = c .before .before .before .before in
+    let start = c4 .before .before .before .before .before .before in (
+      search needs,
+      (start .pre .1 .0, (let g = g-in _ _ _ _ _ _ (c .before .k2 .given .1) (c4 .part .ensures) (lit< tt) in omega arith)),
+    )
 
 overridden-enum-known-k2 : (t : ℕ) → overridden-lts.Need-enum-known-k2 (
   part-below t,
@@ -406,7 +446,11 @@ overridden-add-part-2 : (t : ℕ) → overridden-lts.Need-add-part-2 (
   put-reads.Asked,
   put-reads.Learnt,
 ) (overridden-at t) overridden.Post
-overridden-add-part-2 t c = let g = g-in _ _ _ _ _ _ (c .before .k23 .given .1) (c .before .before .before .before .part2 .ensures) (lit< tt) in omega (arith, c .before .before .before .before .before .before .before .before .before .before .before .before .before .before .before .good .0)
+overridden-add-part-2 t c =
+    let c4 = c .before .before .before .before in
+    let start = c4 .before .before .before .before .before .before .before .before .before .before .before in
+    let g = g-in _ _ _ _ _ _ (c .before .k23 .given .1) (c4 .part2 .ensures) (lit< tt) in
+    omega (arith, start .good .0)
 
 overridden-part-requires-3 : (t : ℕ) → overridden-lts.Need-part-requires-3 (
   part-below t,
@@ -414,7 +458,12 @@ overridden-part-requires-3 : (t : ℕ) → overridden-lts.Need-part-requires-3 (
   put-reads.Asked,
   put-reads.Learnt,
 ) (overridden-at t) overridden.Post
-overridden-part-requires-3 t c κs = (search needs, (c .before .before .before .before .before .before .before .before .before .before .before .before .before .before .before .pre .1 .0, (let g = g-in _ _ _ _ _ _ (c .before .k23 .given .1) (c .before .before .before .before .part2 .ensures) (lit< tt) in omega arith)))
+overridden-part-requires-3 t c κs =
+    let c4 = c .before .before .before .before in
+    let start = c4 .before .before .before .before .before .before .before .before .before .before .before in (
+      search needs,
+      (start .pre .1 .0, (let g = g-in _ _ _ _ _ _ (c .before .k23 .given .1) (c4 .part2 .ensures) (lit< tt) in omega arith)),
+    )
 
 overridden-enum-known-k3 : (t : ℕ) → overridden-lts.Need-enum-known-k3 (
   part-below t,
@@ -446,7 +495,11 @@ overridden-add-t35 : (t : ℕ) → overridden-lts.Need-add-t35 (
   put-reads.Asked,
   put-reads.Learnt,
 ) (overridden-at t) overridden.Post
-overridden-add-t35 t c = let g = g-in _ _ _ _ _ _ (c .before .before .k32 .given .1) (c .before .before .before .before .before .part3 .ensures) (lit< tt) in omega (arith, c .before .before .before .before .before .before .before .before .before .before .before .before .before .before .before .before .before .before .before .before .before .good .0)
+overridden-add-t35 t c =
+    let c5 = c .before .before .before .before .before in
+    let start = c5 .before .before .before .before .before .before .before .before .before .before .before .before .before .before .before .before in
+    let g = g-in _ _ _ _ _ _ (c .before .before .k32 .given .1) (c5 .part3 .ensures) (lit< tt) in
+    omega (arith, start .good .0)
 
 overridden-returns : (t : ℕ) → overridden-lts.Need-returns (
   part-below t,
@@ -462,7 +515,10 @@ overridden-returns-2 : (t : ℕ) → overridden-lts.Need-returns-2 (
   put-reads.Asked,
   put-reads.Learnt,
 ) (overridden-at t) overridden.Post
-overridden-returns-2 t c = h-second _ _ _ _ _ _ _ (c .before .before .before .before .before .before .k2 .given .1) (c .before .before .before .before .before .before .before .before .before .part .ensures) _ (c .before .k22 .given .1) (c .before .before .before .before .part2 .ensures)
+overridden-returns-2 t c =
+    let c4 = c .before .before .before .before in
+    let c9 = c4 .before .before .before .before .before in
+    h-second _ _ _ _ _ _ _ (c4 .before .before .k2 .given .1) (c9 .part .ensures) _ (c .before .k22 .given .1) (c4 .part2 .ensures)
 
 overridden-returns-3 : (t : ℕ) → overridden-lts.Need-returns-3 (
   part-below t,
@@ -470,7 +526,12 @@ overridden-returns-3 : (t : ℕ) → overridden-lts.Need-returns-3 (
   put-reads.Asked,
   put-reads.Learnt,
 ) (overridden-at t) overridden.Post
-overridden-returns-3 t c = h-third _ _ _ _ _ _ _ (c .before .before .before .before .before .before .before .before .before .before .before .k2 .given .1) (c .before .before .before .before .before .before .before .before .before .before .before .before .before .before .part .ensures) _ (c .before .before .before .before .before .before .k23 .given .1) (c .before .before .before .before .before .before .before .before .before .part2 .ensures) _ (c .before .k3 .given .1) (c .before .before .before .before .part3 .ensures)
+overridden-returns-3 t c =
+    let c4 = c .before .before .before .before in
+    let c9 = c4 .before .before .before .before .before in
+    let c14 = c9 .before .before .before .before .before in
+    h-third _ _ _ _ _ _ _ (c9 .before .before .k2 .given .1) (c14 .part .ensures) _ (c4 .before .before .k23 .given .1) (c9 .part2 .ensures) _
+    (c .before .k3 .given .1) (c4 .part3 .ensures)
 
 overridden-returns-4 : (t : ℕ) → overridden-lts.Need-returns-4 (
   part-below t,
@@ -478,7 +539,12 @@ overridden-returns-4 : (t : ℕ) → overridden-lts.Need-returns-4 (
   put-reads.Asked,
   put-reads.Learnt,
 ) (overridden-at t) overridden.Post
-overridden-returns-4 t c = h-good _ _ _ _ _ _ _ (c .before .before .before .before .before .before .before .before .before .before .before .before .k2 .given .1) (c .before .before .before .before .before .before .before .before .before .before .before .before .before .before .before .part .ensures) _ (c .before .before .before .before .before .before .before .k23 .given .1) (c .before .before .before .before .before .before .before .before .before .before .part2 .ensures) _ (c .before .before .k32 .given .1) (c .before .before .before .before .before .part3 .ensures) (c .put .ensures)
+overridden-returns-4 t c =
+    let c5 = c .before .before .before .before .before in
+    let c10 = c5 .before .before .before .before .before in
+    let c15 = c10 .before .before .before .before .before in
+    h-good _ _ _ _ _ _ _ (c10 .before .before .k2 .given .1) (c15 .part .ensures) _ (c5 .before .before .k23 .given .1) (c10 .part2 .ensures) _
+    (c .before .before .k32 .given .1) (c5 .part3 .ensures) (c .put .ensures)
 
 part-expression-requires : (t : ℕ) → part-lts.Need-expression-requires (
   expression-below t,
@@ -518,7 +584,10 @@ part-returns : (t : ℕ) → part-lts.Need-returns (
   peek-reads.Asked,
   peek-reads.Learnt,
 ) (part-at t) part.Post
-part-returns t c = g-open _ _ _ _ _ _ _ (c .before .before .before .k2 .given .1) (c .before .before .before .before .before .before .expression .ensures) (byte-isnt (c .before .peek .ensures) (c .if1 .taken))
+part-returns t c =
+    let c3 = c .before .before .before in
+    let c6 = c3 .before .before .before in
+    g-open _ _ _ _ _ _ _ (c3 .k2 .given .1) (c6 .expression .ensures) (byte-isnt (c .before .peek .ensures) (c .if1 .taken))
 
 part-returns-2 : (t : ℕ) → part-lts.Need-returns-2 (
   expression-below t,
@@ -534,7 +603,10 @@ part-returns-3 : (t : ℕ) → part-lts.Need-returns-3 (
   peek-reads.Asked,
   peek-reads.Learnt,
 ) (part-at t) part.Post
-part-returns-3 t c = g-good _ _ _ _ _ _ (c .before .before .before .k2 .given .1) (c .before .before .before .before .before .before .expression .ensures) (byte-is (c .before .peek .ensures) (c .if1 .left))
+part-returns-3 t c =
+    let c3 = c .before .before .before in
+    let c6 = c3 .before .before .before in
+    g-good _ _ _ _ _ _ (c3 .k2 .given .1) (c6 .expression .ensures) (byte-is (c .before .peek .ensures) (c .if1 .left))
 
 primary-peek-requires : (t : ℕ) → primary-lts.Need-peek-requires (
   peek-reads.Asked,
@@ -614,7 +686,14 @@ primary-part-requires : (t : ℕ) → primary-lts.Need-part-requires (
   overridden-below t,
   overridden.Post,
 ) (primary-at t) primary.Post
-primary-part-requires t c κs = (search needs, (c .before .before .before .before .before .before .before .before .pre .1 .0, omega (arith, is-in 40 (c .before .before .before .before .before .before .before .before .args .t .now) (c .before .before .before .before .before .before .before .before .args .at) (byte-is (c .before .before .peek .ensures) (c .before .if1 .taken)) (lit< tt))))
+primary-part-requires t c κs =
+    let start = c .before .before .before .before .before .before .before .before in (
+      search needs,
+      (
+        start .pre .1 .0,
+        omega (arith, is-in 40 (start .args .t .now) (start .args .at) (byte-is (c .before .before .peek .ensures) (c .before .if1 .taken)) (lit< tt)),
+      ),
+    )
 
 primary-enum-known-k : (t : ℕ) → primary-lts.Need-enum-known-k (
   peek-reads.Asked,
@@ -646,7 +725,10 @@ primary-returns-2 : (t : ℕ) → primary-lts.Need-returns-2 (
   overridden-below t,
   overridden.Post,
 ) (primary-at t) primary.Post
-primary-returns-2 t c = p-bad _ _ _ _ _ _ (byte-is (c .before .before .before .before .before .before .before .peek .ensures) (c .before .before .before .before .before .before .if1 .taken)) (c .before .before .before .before .before .if2 .left) _ (c .before .k .given .1) (c .before .before .before .before .part .ensures)
+primary-returns-2 t c =
+    let c4 = c .before .before .before .before in
+    let c7 = c4 .before .before .before in
+    p-bad _ _ _ _ _ _ (byte-is (c7 .peek .ensures) (c4 .before .before .if1 .taken)) (c4 .before .if2 .left) _ (c .before .k .given .1) (c4 .part .ensures)
 
 primary-enum-known-k-2 : (t : ℕ) → primary-lts.Need-enum-known-k-2 (
   peek-reads.Asked,
@@ -694,7 +776,10 @@ primary-returns-3 : (t : ℕ) → primary-lts.Need-returns-3 (
   overridden-below t,
   overridden.Post,
 ) (primary-at t) primary.Post
-primary-returns-3 t c = p-good _ _ _ _ _ _ (byte-is (c .before .before .before .before .before .before .before .peek .ensures) (c .before .before .before .before .before .before .if1 .taken)) (c .before .before .before .before .before .if2 .left) (c .before .k2 .given .1) (c .before .before .before .before .part .ensures)
+primary-returns-3 t c =
+    let c4 = c .before .before .before .before in
+    let c7 = c4 .before .before .before in
+    p-good _ _ _ _ _ _ (byte-is (c7 .peek .ensures) (c4 .before .before .if1 .taken)) (c4 .before .if2 .left) (c .before .k2 .given .1) (c4 .part .ensures)
 
 primary-word-requires : (t : ℕ) → primary-lts.Need-word-requires (
   peek-reads.Asked,
@@ -774,7 +859,14 @@ primary-put-name-requires : (t : ℕ) → primary-lts.Need-put-name-requires (
   overridden-below t,
   overridden.Post,
 ) (primary-at t) primary.Post
-primary-put-name-requires t c κs = (c .before .before .before .before .before .before .before .before .before .before .before .before .before .pre .1 .0, (let g = n-bounds _ _ (c .before .before .before .e2 .given .1) (c .before .before .before .before .before .word .ensures) in omega arith), n-bounds _ _ (c .before .before .before .e2 .given .1) (c .before .before .before .before .before .word .ensures) .1)
+primary-put-name-requires t c κs =
+    let c3 = c .before .before .before in
+    let c5 = c3 .before .before in
+    let start = c5 .before .before .before .before .before .before .before .before in (
+      start .pre .1 .0,
+      (let g = n-bounds _ _ (c3 .e2 .given .1) (c5 .word .ensures) in omega arith),
+      n-bounds _ _ (c3 .e2 .given .1) (c5 .word .ensures) .1,
+    )
 
 primary-returns-4 : (t : ℕ) → primary-lts.Need-returns-4 (
   peek-reads.Asked,
@@ -790,7 +882,12 @@ primary-returns-4 : (t : ℕ) → primary-lts.Need-returns-4 (
   overridden-below t,
   overridden.Post,
 ) (primary-at t) primary.Post
-primary-returns-4 t c = p-table _ _ _ _ _ _ (c .before .before .before .before .before .before .before .before .before .before .before .before .before .before .pre .1 .1) (byte-isnt (c .before .before .before .before .before .before .before .before .peek .ensures) (c .before .before .before .before .before .before .before .if1 .left)) (c .before .before .before .before .e2 .given .1) (c .before .before .before .before .before .before .word .ensures) (c .before .before .word-sort .ensures) (c .before .if3 .taken) (c .put-name .ensures)
+primary-returns-4 t c =
+    let c4 = c .before .before .before .before in
+    let c7 = c4 .before .before .before in
+    let start = c7 .before .before .before .before .before .before .before in
+    p-table _ _ _ _ _ _ (start .pre .1 .1) (byte-isnt (c7 .before .peek .ensures) (c7 .if1 .left)) (c4 .e2 .given .1) (c4 .before .before .word .ensures)
+    (c .before .before .word-sort .ensures) (c .before .if3 .taken) (c .put-name .ensures)
 
 primary-returns-5 : (t : ℕ) → primary-lts.Need-returns-5 (
   peek-reads.Asked,
@@ -806,7 +903,12 @@ primary-returns-5 : (t : ℕ) → primary-lts.Need-returns-5 (
   overridden-below t,
   overridden.Post,
 ) (primary-at t) primary.Post
-primary-returns-5 t c = p-word _ _ _ _ _ _ (c .before .before .before .before .before .before .before .before .before .before .before .before .before .before .pre .1 .1) (byte-isnt (c .before .before .before .before .before .before .before .before .peek .ensures) (c .before .before .before .before .before .before .before .if1 .left)) (c .before .before .before .before .e2 .given .1) (c .before .before .before .before .before .before .word .ensures) (c .before .before .word-sort .ensures) (c .before .if3 .left) (c .if4 .taken)
+primary-returns-5 t c =
+    let c4 = c .before .before .before .before in
+    let c7 = c4 .before .before .before in
+    let start = c7 .before .before .before .before .before .before .before in
+    p-word _ _ _ _ _ _ (start .pre .1 .1) (byte-isnt (c7 .before .peek .ensures) (c7 .if1 .left)) (c4 .e2 .given .1) (c4 .before .before .word .ensures)
+    (c .before .before .word-sort .ensures) (c .before .if3 .left) (c .if4 .taken)
 
 primary-peek-requires-2 : (t : ℕ) → primary-lts.Need-peek-requires-2 (
   peek-reads.Asked,
@@ -838,7 +940,12 @@ primary-returns-6 : (t : ℕ) → primary-lts.Need-returns-6 (
   overridden-below t,
   overridden.Post,
 ) (primary-at t) primary.Post
-primary-returns-6 t c = p-lone _ _ _ _ _ _ (c .before .before .before .before .before .before .before .before .before .before .before .before .before .before .before .before .pre .1 .1) (byte-isnt (c .before .before .before .before .before .before .before .before .before .before .peek .ensures) (c .before .before .before .before .before .before .before .before .before .if1 .left)) (c .before .before .before .before .before .before .e2 .given .1) (c .before .before .before .before .before .before .before .before .word .ensures) (c .before .before .before .before .word-sort .ensures) (c .before .before .if4 .left) (byte-isnt (c .before .peek2 .ensures) (c .if5 .taken))
+primary-returns-6 t c =
+    let c4 = c .before .before .before .before in
+    let c8 = c4 .before .before .before .before in
+    let start = c8 .before .before .before .before .before .before .before .before in
+    p-lone _ _ _ _ _ _ (start .pre .1 .1) (byte-isnt (c8 .before .before .peek .ensures) (c8 .before .if1 .left)) (c4 .before .before .e2 .given .1)
+    (c8 .word .ensures) (c4 .word-sort .ensures) (c .before .before .if4 .left) (byte-isnt (c .before .peek2 .ensures) (c .if5 .taken))
 
 primary-returns-7 : (t : ℕ) → primary-lts.Need-returns-7 (
   peek-reads.Asked,
@@ -854,7 +961,13 @@ primary-returns-7 : (t : ℕ) → primary-lts.Need-returns-7 (
   overridden-below t,
   overridden.Post,
 ) (primary-at t) primary.Post
-primary-returns-7 t c = p-full-2 _ _ _ _ _ _ (c .before .before .before .before .before .before .before .before .before .before .before .before .before .before .before .before .before .pre .1 .1) (byte-isnt (c .before .before .before .before .before .before .before .before .before .before .before .peek .ensures) (c .before .before .before .before .before .before .before .before .before .before .if1 .left)) (c .before .before .before .before .before .before .before .e2 .given .1) (c .before .before .before .before .before .before .before .before .before .word .ensures) (c .before .before .before .before .before .word-sort .ensures) (c .before .before .before .if4 .left) (byte-is (c .before .before .peek2 .ensures) (c .before .if5 .left)) (c .if6 .taken)
+primary-returns-7 t c =
+    let c3 = c .before .before .before in
+    let c7 = c3 .before .before .before .before in
+    let c10 = c7 .before .before .before in
+    let start = c10 .before .before .before .before .before .before .before in
+    p-full-2 _ _ _ _ _ _ (start .pre .1 .1) (byte-isnt (c10 .before .peek .ensures) (c10 .if1 .left)) (c7 .e2 .given .1) (c7 .before .before .word .ensures)
+    (c3 .before .before .word-sort .ensures) (c3 .if4 .left) (byte-is (c .before .before .peek2 .ensures) (c .before .if5 .left)) (c .if6 .taken)
 
 primary-add-overridden : (t : ℕ) → primary-lts.Need-add-overridden (
   peek-reads.Asked,
@@ -870,7 +983,10 @@ primary-add-overridden : (t : ℕ) → primary-lts.Need-add-overridden (
   overridden-below t,
   overridden.Post,
 ) (primary-at t) primary.Post
-primary-add-overridden t c = let g = n-bounds _ _ (c .before .before .before .before .before .before .before .e2 .given .1) (c .before .before .before .before .before .before .before .before .before .word .ensures) in omega arith
+primary-add-overridden t c =
+    let c7 = c .before .before .before .before .before .before .before in
+    let g = n-bounds _ _ (c7 .e2 .given .1) (c7 .before .before .word .ensures) in
+    omega arith
 
 primary-sub-overridden : (t : ℕ) → primary-lts.Need-sub-overridden (
   peek-reads.Asked,
@@ -902,7 +1018,15 @@ primary-overridden-requires : (t : ℕ) → primary-lts.Need-overridden-requires
   overridden-below t,
   overridden.Post,
 ) (primary-at t) primary.Post
-primary-overridden-requires t c κs = (search needs, (c .before .before .before .before .before .before .before .before .before .before .before .before .before .before .before .before .before .pre .1 .0, omega (arith, is-in 40 (c .before .before .before .before .before .before .before .before .before .before .before .before .before .before .before .before .before .args .t .now) (c .before .before .before .before .before .before .before .e2 .given .0 .0) (byte-is (c .before .before .peek2 .ensures) (c .before .if5 .left)) (lit< tt))))
+primary-overridden-requires t c κs =
+    let c7 = c .before .before .before .before .before .before .before in
+    let start = c7 .before .before .before .before .before .before .before .before .before .before in (
+      search needs,
+      (
+        start .pre .1 .0,
+        omega (arith, is-in 40 (start .args .t .now) (c7 .e2 .given .0 .0) (byte-is (c .before .before .peek2 .ensures) (c .before .if5 .left)) (lit< tt)),
+      ),
+    )
 
 primary-returns-8 : (t : ℕ) → primary-lts.Need-returns-8 (
   peek-reads.Asked,
@@ -918,7 +1042,10 @@ primary-returns-8 : (t : ℕ) → primary-lts.Need-returns-8 (
   overridden-below t,
   overridden.Post,
 ) (primary-at t) primary.Post
-primary-returns-8 t c = p-none _ _ _ _ _ _ (c .before .before .before .before .before .before .before .before .before .before .before .pre .1 .1) (byte-isnt (c .before .before .before .before .before .peek .ensures) (c .before .before .before .before .if1 .left)) (c .before .e .given .1) (c .before .before .before .word .ensures)
+primary-returns-8 t c =
+    let c3 = c .before .before .before in
+    let start = c3 .before .before .before .before .before .before .before .before in
+    p-none _ _ _ _ _ _ (start .pre .1 .1) (byte-isnt (c3 .before .before .peek .ensures) (c3 .before .if1 .left)) (c .before .e .given .1) (c3 .word .ensures)
 
 primary-returns-9 : (t : ℕ) → primary-lts.Need-returns-9 (
   peek-reads.Asked,
@@ -934,7 +1061,14 @@ primary-returns-9 : (t : ℕ) → primary-lts.Need-returns-9 (
   overridden-below t,
   overridden.Post,
 ) (primary-at t) primary.Post
-primary-returns-9 t c = p-override _ _ _ _ _ _ (c .before .before .before .before .before .before .before .before .before .before .before .before .before .before .before .before .before .before .pre .1 .1) (byte-isnt (c .before .before .before .before .before .before .before .before .before .before .before .before .peek .ensures) (c .before .before .before .before .before .before .before .before .before .before .before .if1 .left)) (c .before .before .before .before .before .before .before .before .e2 .given .1) (c .before .before .before .before .before .before .before .before .before .before .word .ensures) (c .before .before .before .before .before .before .word-sort .ensures) (c .before .before .before .before .if4 .left) (byte-is (c .before .before .before .peek2 .ensures) (c .before .before .if5 .left)) (c .before .if6 .left) _ (c .overridden .ensures)
+primary-returns-9 t c =
+    let c3 = c .before .before .before in
+    let c6 = c3 .before .before .before in
+    let c10 = c6 .before .before .before .before in
+    let start = c10 .before .before .before .before .before .before .before .before in
+    p-override _ _ _ _ _ _ (start .pre .1 .1) (byte-isnt (c10 .before .before .peek .ensures) (c10 .before .if1 .left)) (c6 .before .before .e2 .given .1)
+    (c10 .word .ensures) (c6 .word-sort .ensures) (c3 .before .if4 .left) (byte-is (c3 .peek2 .ensures) (c .before .before .if5 .left)) (c .before .if6 .left) _
+    (c .overridden .ensures)
 
 pub +expression+factor+more+overridden+part+primary-spec : {M : Type 1} → statement M
 +expression+factor+more+overridden+part+primary-spec =

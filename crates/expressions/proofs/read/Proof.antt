@@ -18,13 +18,22 @@ ends-at-requires : tie.Need-ends-at-requires
 ends-at-requires c κs = tt
 
 returns : tie.Need-returns
-returns c = r-rest _ _ _ _ (c .before .before .before .k2 .given .1) (c .before .before .before .before .before .before .from-start .ensures) _ (eqb-false _ _ (sym (c .before .ends-at .ensures) ∙ not-true _ (c .if1 .taken)))
+returns c =
+    let c3 = c .before .before .before in
+    let c6 = c3 .before .before .before in
+    r-rest _ _ _ _ (c3 .k2 .given .1) (c6 .from-start .ensures) _ (eqb-false _ _ (sym (c .before .ends-at .ensures) ∙ not-true _ (c .if1 .taken)))
 
 returns-2 : tie.Need-returns-2
 returns-2 c = r-bad _ _ _ _ _ (c .before .k .given .1) (c .before .before .before .before .from-start .ensures)
 
 returns-3 : tie.Need-returns-3
-returns-3 c = r-whole _ _ _ _ (c .before .before .before .k2 .given .1) (c .before .before .before .before .before .before .from-start .ensures) record { room = refl; no-cells = refl; no-operators = refl; no-height = refl; no-held = refl; no-place = refl } (c .before .before .before .before .before .before .before .before .before .before .before .before .pre .1) (eqb-true _ _ (sym (c .before .ends-at .ensures) ∙ not-false _ (c .if1 .left)))
+returns-3 c =
+    let c3 = c .before .before .before in
+    let c6 = c3 .before .before .before in
+    let start = c6 .before .before .before .before .before .before in
+    r-whole _ _ _ _ (c3 .k2 .given .1) (c6 .from-start .ensures)
+    record { room = refl; no-cells = refl; no-operators = refl; no-height = refl; no-held = refl; no-place = refl } (start .pre .1)
+    (eqb-true _ _ (sym (c .before .ends-at .ensures) ∙ not-false _ (c .if1 .left)))
 
 pub read-spec : {M : Type 1} → statement M
 read-spec =

@@ -20,13 +20,19 @@ refused-requires-2 : tie.Need-refused-requires-2
 refused-requires-2 c κs = search needs
 
 returns-2 : tie.Need-returns-2
-returns-2 c d ns g = goal-8 _ _ _ _ _ d ns _ g _ _ (sym (c .before .before .before .before .late .ensures) ∙ c .before .before .before .if1 .left) (sym (c .before .before .bad-counts .ensures) ∙ c .before .if2 .taken) _ (c .refused2 .ensures)
+returns-2 c d ns g =
+    let c3 = c .before .before .before in
+    goal-8 _ _ _ _ _ d ns _ g _ _ (sym (c3 .before .late .ensures) ∙ c3 .if1 .left) (sym (c .before .before .bad-counts .ensures) ∙ c .before .if2 .taken) _
+    (c .refused2 .ensures)
 
 refused-requires-3 : tie.Need-refused-requires-3
 refused-requires-3 c κs = search needs
 
 returns-3 : tie.Need-returns-3
-returns-3 c d ns g = goal-7 _ _ _ _ _ d ns _ g _ _ (sym (c .before .before .before .before .before .late .ensures) ∙ c .before .before .before .before .if1 .left) (sym (c .before .before .before .bad-counts .ensures) ∙ c .before .before .if2 .left) (c .before .if3 .taken) _ (c .refused3 .ensures)
+returns-3 c d ns g =
+    let c3 = c .before .before .before in
+    goal-7 _ _ _ _ _ d ns _ g _ _ (sym (c3 .before .before .late .ensures) ∙ c3 .before .if1 .left)
+    (sym (c3 .bad-counts .ensures) ∙ c .before .before .if2 .left) (c .before .if3 .taken) _ (c .refused3 .ensures)
 
 sub-text : tie.Need-sub-text
 sub-text c = search needs
@@ -53,19 +59,58 @@ enum-told : tie.Need-enum-told
 enum-told c = search needs
 
 returns-4 : tie.Need-returns-4
-returns-4 c d ns g = goal-held _ _ _ _ _ d ns _ g _ _ (sym (c .before .before .before .before .before .before .before .before .before .before .before .before .before .before .late .ensures) ∙ c .before .before .before .before .before .before .before .before .before .before .before .before .before .if1 .left) (sym (c .before .before .before .before .before .before .before .before .before .before .before .before .bad-counts .ensures) ∙ c .before .before .before .before .before .before .before .before .before .before .before .if2 .left) (c .before .before .before .before .before .before .before .before .before .before .if3 .left) _ (told-part _ _ _ _ _ (c .before .before .before .before .before .before .before .before .before .before .before .before .before .before .before .before .before .before .before .pre .1 .order) (c .before .before .before .before .before .before .before .before .read .ensures)) (c .before .before .before .before .before .answer2 .given .1) (c .before .before .enum-told .given .1) (c .if4 .taken) _
+returns-4 c d ns g =
+    let c5 = c .before .before .before .before .before in
+    let c8 = c5 .before .before .before in
+    let c11 = c8 .before .before .before in
+    let c14 = c11 .before .before .before in
+    let start = c14 .before .before .before .before .before in
+    goal-held _ _ _ _ _ d ns _ g _ _ (sym (c14 .late .ensures) ∙ c11 .before .before .if1 .left) (sym (c11 .before .bad-counts .ensures) ∙ c11 .if2 .left)
+    (c8 .before .before .if3 .left) _ (told-part _ _ _ _ _ (start .pre .1 .order) (c8 .read .ensures)) (c5 .answer2 .given .1)
+    (c .before .before .enum-told .given .1) (c .if4 .taken) _
 
 returns-5 : tie.Need-returns-5
-returns-5 c d ns g = goal-operators _ _ _ _ _ d ns _ g _ _ (sym (c .before .before .before .before .before .before .before .before .before .before .before .before .before .before .before .before .late .ensures) ∙ c .before .before .before .before .before .before .before .before .before .before .before .before .before .before .before .if1 .left) (sym (c .before .before .before .before .before .before .before .before .before .before .before .before .before .before .bad-counts .ensures) ∙ c .before .before .before .before .before .before .before .before .before .before .before .before .before .if2 .left) (c .before .before .before .before .before .before .before .before .before .before .before .before .if3 .left) _ (told-part _ _ _ _ _ (c .before .before .before .before .before .before .before .before .before .before .before .before .before .before .before .before .before .before .before .before .before .pre .1 .order) (c .before .before .before .before .before .before .before .before .before .before .read .ensures)) (c .before .before .before .before .before .before .before .answer2 .given .1) (c .before .before .before .before .enum-told .given .1) (c .before .before .if4 .left) (c .if5 .taken) _
+returns-5 c d ns g =
+    let c4 = c .before .before .before .before in
+    let c7 = c4 .before .before .before in
+    let c10 = c7 .before .before .before in
+    let c13 = c10 .before .before .before in
+    let c16 = c13 .before .before .before in
+    let start = c16 .before .before .before .before .before in
+    goal-operators _ _ _ _ _ d ns _ g _ _ (sym (c16 .late .ensures) ∙ c13 .before .before .if1 .left) (sym (c13 .before .bad-counts .ensures) ∙ c13 .if2 .left)
+    (c10 .before .before .if3 .left) _ (told-part _ _ _ _ _ (start .pre .1 .order) (c10 .read .ensures)) (c7 .answer2 .given .1) (c4 .enum-told .given .1)
+    (c .before .before .if4 .left) (c .if5 .taken) _
 
 returns-6 : tie.Need-returns-6
-returns-6 c d ns g = goal-12 _ _ _ _ _ d ns _ g _ _ (sym (c .before .before .before .before .before .before .before .before .before .before .late .ensures) ∙ c .before .before .before .before .before .before .before .before .before .if1 .left) (sym (c .before .before .before .before .before .before .before .before .bad-counts .ensures) ∙ c .before .before .before .before .before .before .before .if2 .left) (c .before .before .before .before .before .before .if3 .left) _ (told-part _ _ _ _ _ (c .before .before .before .before .before .before .before .before .before .before .before .before .before .before .before .pre .1 .order) (c .before .before .before .before .read .ensures)) (c .before .answer .given .1) _
+returns-6 c d ns g =
+    let c4 = c .before .before .before .before in
+    let c7 = c4 .before .before .before in
+    let c10 = c7 .before .before .before in
+    let start = c10 .before .before .before .before .before in
+    goal-12 _ _ _ _ _ d ns _ g _ _ (sym (c10 .late .ensures) ∙ c7 .before .before .if1 .left) (sym (c7 .before .bad-counts .ensures) ∙ c7 .if2 .left)
+    (c4 .before .before .if3 .left) _ (told-part _ _ _ _ _ (start .pre .1 .order) (c4 .read .ensures)) (c .before .answer .given .1) _
 
 returns-7 : tie.Need-returns-7
-returns-7 c d ns g = goal-13 _ _ _ _ _ d ns _ g _ _ (sym (c .before .before .before .before .before .before .before .before .before .before .before .before .before .late .ensures) ∙ c .before .before .before .before .before .before .before .before .before .before .before .before .if1 .left) (sym (c .before .before .before .before .before .before .before .before .before .before .before .bad-counts .ensures) ∙ c .before .before .before .before .before .before .before .before .before .before .if2 .left) (c .before .before .before .before .before .before .before .before .before .if3 .left) _ (told-part _ _ _ _ _ (c .before .before .before .before .before .before .before .before .before .before .before .before .before .before .before .before .before .before .pre .1 .order) (c .before .before .before .before .before .before .before .read .ensures)) (c .before .before .before .before .answer2 .given .1) (c .before .missing .given .1) _
+returns-7 c d ns g =
+    let c4 = c .before .before .before .before in
+    let c7 = c4 .before .before .before in
+    let c10 = c7 .before .before .before in
+    let c13 = c10 .before .before .before in
+    let start = c13 .before .before .before .before .before in
+    goal-13 _ _ _ _ _ d ns _ g _ _ (sym (c13 .late .ensures) ∙ c10 .before .before .if1 .left) (sym (c10 .before .bad-counts .ensures) ∙ c10 .if2 .left)
+    (c7 .before .before .if3 .left) _ (told-part _ _ _ _ _ (start .pre .1 .order) (c7 .read .ensures)) (c4 .answer2 .given .1) (c .before .missing .given .1) _
 
 returns-8 : tie.Need-returns-8
-returns-8 c d ns g = goal-good _ _ _ _ _ d ns _ g _ _ (sym (c .before .before .before .before .before .before .before .before .before .before .before .before .before .before .before .before .late .ensures) ∙ c .before .before .before .before .before .before .before .before .before .before .before .before .before .before .before .if1 .left) (sym (c .before .before .before .before .before .before .before .before .before .before .before .before .before .before .bad-counts .ensures) ∙ c .before .before .before .before .before .before .before .before .before .before .before .before .before .if2 .left) (c .before .before .before .before .before .before .before .before .before .before .before .before .if3 .left) _ (told-part _ _ _ _ _ (c .before .before .before .before .before .before .before .before .before .before .before .before .before .before .before .before .before .before .before .before .before .pre .1 .order) (c .before .before .before .before .before .before .before .before .before .before .read .ensures)) (c .before .before .before .before .before .before .before .answer2 .given .1) (c .before .before .before .before .enum-told .given .1) (c .before .before .if4 .left) (c .if5 .left)
+returns-8 c d ns g =
+    let c4 = c .before .before .before .before in
+    let c7 = c4 .before .before .before in
+    let c10 = c7 .before .before .before in
+    let c13 = c10 .before .before .before in
+    let c16 = c13 .before .before .before in
+    let start = c16 .before .before .before .before .before in
+    goal-good _ _ _ _ _ d ns _ g _ _ (sym (c16 .late .ensures) ∙ c13 .before .before .if1 .left) (sym (c13 .before .bad-counts .ensures) ∙ c13 .if2 .left)
+    (c10 .before .before .if3 .left) _ (told-part _ _ _ _ _ (start .pre .1 .order) (c10 .read .ensures)) (c7 .answer2 .given .1) (c4 .enum-told .given .1)
+    (c .before .before .if4 .left) (c .if5 .left)
 
 pub judge-expression-spec : {M : Type 1} → statement M
 judge-expression-spec =

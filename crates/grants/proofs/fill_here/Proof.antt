@@ -17,28 +17,34 @@ abbrev μ-loop : tie.MeasureT-loop
 μ-loop w₀ k n table grants at t i₀ w i = grants - i
 
 -- the memory where the loop begins
-filled-room : (c : tie.Joined1 Inv-loop μ-loop) → Room (c .before .before .before .before .before .before .before .before .before .before .before .args .k) (c .before .before .before .before .before .before .before .before .before .before .before .args .n) (c .before .before .before .before .before .before .before .fill .last .0)
+filled-room : (c : tie.Joined1 Inv-loop μ-loop) → let c7 = c .before .before .before .before .before .before .before in
+    let start = c7 .before .before .before .before in
+    Room (start .args .k) (start .args .n) (c7 .fill .last .0)
 filled-room c =
-    let a = c .before .before .before .before .before .before .before .before .before .before .before .args in
-    let p = c .before .before .before .before .before .before .before .before .before .before .before .pre .0 in
-    let e = empty-length (a .table) (a .k) (a .n) (a .w .now) (c .before .before .before .before .before .before .before .fill .last .0) p (c .before .before .before .before .before .before .before .fill .ensures) in
+    let c7 = c .before .before .before .before .before .before .before in
+    let start = c7 .before .before .before .before in
+    let a = start .args in
+    let p = start .pre .0 in
+    let e = empty-length (a .table) (a .k) (a .n) (a .w .now) (c7 .fill .last .0) p (c7 .fill .ensures) in
     (p .0, p .1, omega arith)
 
 -- by either arm the turn's grant is counted
-turned : (c : tie.Joined1 Inv-loop μ-loop) → c .if1 .w ≡ putSet (c .before .before .before .before .before .before .before .before .before .before .before .args .k) (c .before .before .before .before .before .before .before .before .before .before .before .args .n) (given (c .before .before .before .before .before .before .before .before .before .before .before .args .table) (c .before .before .before .before .loop .i + 1) (c .before .before .before .before .before .before .before .fill .last .0)) (c .before .before .before .before .before .before .before .fill .last .0)
+turned : (c : tie.Joined1 Inv-loop μ-loop) → let c4 = c .before .before .before .before in
+    let c7 = c4 .before .before .before in
+    let args = c7 .before .before .before .before .args in
+    c .if1 .w ≡ putSet (args .k) (args .n) (given (args .table) (c4 .loop .i + 1) (c7 .fill .last .0)) (c7 .fill .last .0)
 turned c =
-    let a = c .before .before .before .before .before .before .before .before .before .before .before .args in
-    let l = c .before .before .before .before .loop in
-    let t = c .before .before .before .before .before .before .before .before .before .wide .ensures .0 in
+    let c4 = c .before .before .before .before in
+    let c7 = c4 .before .before .before in
+    let a = c7 .before .before .before .before .args in
+    let l = c4 .loop in
+    let t = c7 .before .before .wide .ensures .0 in
     let r = filled-room c in
     let g = c .before .grant-at in
-    let w₁ = c .before .before .before .before .before .before .before .fill .last .0 in
-    ⊎-elim
-    (λ s. s .2 ∙ turn-hit (a .table) (a .k) (a .n) (l .i) w₁ (l .w) r (l .inv .2) (g .result) (g .ensures) (s .0 .taken ∙ t) (s .1 .taken))
-    (⊎-elim
-    (λ s. s .2 ∙ turn-beyond (a .table) (a .k) (a .n) (l .i) w₁ (l .w) r (l .inv .2) (g .result) (g .ensures) (s .0 .taken ∙ t) (s .1 .left))
-    (λ s. s .1 ∙ turn-miss (a .table) (a .k) (a .n) (l .i) w₁ (l .w) r (l .inv .2) (g .result) (g .ensures) (λ e. s .0 .left (e ∙ sym t))))
-    (c .if1 .came)
+    let w₁ = c7 .fill .last .0 in
+    ⊎-elim (λ s. s .2 ∙ turn-hit (a .table) (a .k) (a .n) (l .i) w₁ (l .w) r (l .inv .2) (g .result) (g .ensures) (s .0 .taken ∙ t) (s .1 .taken))
+    (⊎-elim (λ s. s .2 ∙ turn-beyond (a .table) (a .k) (a .n) (l .i) w₁ (l .w) r (l .inv .2) (g .result) (g .ensures) (s .0 .taken ∙ t) (s .1 .left))
+    (λ s. s .1 ∙ turn-miss (a .table) (a .k) (a .n) (l .i) w₁ (l .w) r (l .inv .2) (g .result) (g .ensures) (λ e. s .0 .left (e ∙ sym t)))) (c .if1 .came)
 
 mul-at : tie.Need-mul-at Inv-loop μ-loop
 mul-at c = omega arith
@@ -51,8 +57,9 @@ fill-requires c κs = omega arith
 
 loop-holds : tie.Need-loop-holds Inv-loop μ-loop
 loop-holds c =
-    let a = c .before .before .before .before .before .before .args in
-    (omega arith, refl, empty-given (a .table) (a .k) (a .n) (a .w .now) _ (c .before .before .before .before .before .before .pre .0) (c .before .before .fill .ensures))
+    let start = c .before .before .before .before .before .before in
+    let a = start .args in
+    (omega arith, refl, empty-given (a .table) (a .k) (a .n) (a .w .now) _ (start .pre .0) (c .before .before .fill .ensures))
 
 grant-at-requires : tie.Need-grant-at-requires Inv-loop μ-loop
 grant-at-requires c κs = omega arith
@@ -76,14 +83,18 @@ loop-again c =
 
 same-length : tie.Need-same-length Inv-loop μ-loop
 same-length c =
-    let a = c .before .before .before .before .before .before .before .before .args in
-    c .before .loop .inv .1 ∙ empty-length (a .table) (a .k) (a .n) (a .w .now) _ (c .before .before .before .before .before .before .before .before .pre .0) (c .before .before .before .before .fill .ensures)
+    let c4 = c .before .before .before .before in
+    let start = c4 .before .before .before .before in
+    let a = start .args in
+    c .before .loop .inv .1 ∙ empty-length (a .table) (a .k) (a .n) (a .w .now) _ (start .pre .0) (c4 .fill .ensures)
 
 returns : tie.Need-returns Inv-loop μ-loop
 returns c =
-    let a = c .before .before .before .before .before .before .before .before .args in
+    let c4 = c .before .before .before .before in
+    let start = c4 .before .before .before .before in
+    let a = start .args in
     let l = c .before .loop in
-    all-given (a .table) (a .k) (a .n) (a .w .now) _ (c .before .before .before .before .before .before .before .before .pre .0) (c .before .before .before .before .fill .ensures) (l .i) (a .grants) (l .w) (l .inv .0) (c .loop-test .left) (l .inv .2)
+    all-given (a .table) (a .k) (a .n) (a .w .now) _ (start .pre .0) (c4 .fill .ensures) (l .i) (a .grants) (l .w) (l .inv .0) (c .loop-test .left) (l .inv .2)
 
 pub fill-here-spec : {M : Type 1} → statement M
 fill-here-spec =

@@ -39,4 +39,5 @@ returns : tie.Need-returns Inv-loop μ-loop
 returns c = search needs
 
 pub accesses-spec : {M : Type 1} → statement M
-accesses-spec = tie.close (tie.spec Inv-loop μ-loop check-requires starts-requires loop-holds element-copy-out-access access-requires add-x loop-less loop-again returns)
+accesses-spec =
+    tie.close (tie.spec Inv-loop μ-loop check-requires starts-requires loop-holds element-copy-out-access access-requires add-x loop-less loop-again returns)

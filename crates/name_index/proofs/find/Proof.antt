@@ -20,15 +20,14 @@ loop-holds : tie.Need-loop-holds Inv-loop μ-loop
 loop-holds c = searching-first _ _ _ _ _ _ _ _ (c .slot-of .ensures .0)
 
 add-s : tie.Need-add-s Inv-loop μ-loop
-add-s c = omega (arith, c .before .loop .inv .at-slot .here, c .before .before .before .before .before .before .before .before .pre .1 .within)
+add-s c =
+    let start = c .before .before .before .before .before .before .before .before in
+    omega (arith, c .before .loop .inv .at-slot .here, start .pre .1 .within)
 
 shared-slice-read-s : tie.Need-shared-slice-read-s Inv-loop μ-loop
 shared-slice-read-s c =
-    omega (
-      arith,
-      c .before .before .loop .inv .at-slot .here,
-      c .before .before .before .before .before .before .before .before .before .pre .1 .within,
-    )
+    let start = c .before .before .before .before .before .before .before .before .before in
+    omega (arith, c .before .before .loop .inv .at-slot .here, start .pre .1 .within)
 
 add-t20 : tie.Need-add-t20 Inv-loop μ-loop
 add-t20 c = search needs
@@ -41,43 +40,31 @@ sub-m c = search needs
 
 cast-is-name : tie.Need-cast-is-name Inv-loop μ-loop
 cast-is-name c =
-    omega (
-      arith,
-      c .before .shared-slice-known6 .given
-          (c .before .before .before .before .before .before .before .before .before .before .args .at + c .before .before .before .loop .i),
-    )
+    let c3 = c .before .before .before in
+    let start = c3 .before .before .before .before .before .before .before in
+    omega (arith, c .before .shared-slice-known6 .given (start .args .at + c3 .loop .i))
 
 add-is-name : tie.Need-add-is-name Inv-loop μ-loop
 add-is-name c =
-    omega (
-      arith,
-      c .if1 .left,
-      slot-known _ _ _ _ _ _ _ _ (c .before .before .before .loop .inv)
-          (c .before .before .before .before .before .before .before .before .before .before .pre .1),
-      c .before .before .before .before .before .before .before .before .before .before .pre .0 .in-starts,
-    )
+    let c3 = c .before .before .before in
+    let start = c3 .before .before .before .before .before .before .before in
+    omega (arith, c .if1 .left, slot-known _ _ _ _ _ _ _ _ (c3 .loop .inv) (start .pre .1), start .pre .0 .in-starts)
 
 is-name-requires : tie.Need-is-name-requires Inv-loop μ-loop
-is-name-requires c κs = (
-  part-one _ _ _ _ _ _ (c .before .before .before .before .before .before .before .before .before .before .pre .0) (omega arith)
-      (omega (
-        arith,
-        c .if1 .left,
-        slot-known _ _ _ _ _ _ _ _ (c .before .before .before .loop .inv)
-            (c .before .before .before .before .before .before .before .before .before .before .pre .1),
-      )),
-  c .before .before .before .before .before .before .before .before .before .before .pre .2,
-  c .before .before .before .before .before .before .before .before .before .before .pre .3,
-)
+is-name-requires c κs =
+    let c3 = c .before .before .before in
+    let pre = c3 .before .before .before .before .before .before .before .pre in
+    (part-one _ _ _ _ _ _ (pre .0) (omega arith) (omega (arith, c .if1 .left, slot-known _ _ _ _ _ _ _ _ (c3 .loop .inv) (pre .1))), pre .2, pre .3)
 
 add-t24 : tie.Need-add-t24 Inv-loop μ-loop
 add-t24 c = search needs
 
 returns-2 : tie.Need-returns-2 Inv-loop μ-loop
 returns-2 c =
-    searching-hit _ _ _ _ _ _ _ _ (c .before .before .before .before .before .loop .inv)
-    (c .before .before .before .before .before .before .before .before .before .before .before .before .pre .1) (search needs)
-    (omega (arith, c .before .before .if1 .left)) (sym (c .before .is-name .ensures) ∙ c .if2 .taken)
+    let c5 = c .before .before .before .before .before in
+    let start = c5 .before .before .before .before .before .before .before in
+    searching-hit _ _ _ _ _ _ _ _ (c5 .loop .inv) (start .pre .1) (search needs) (omega (arith, c .before .before .if1 .left))
+    (sym (c .before .is-name .ensures) ∙ c .if2 .taken)
 
 add-i : tie.Need-add-i Inv-loop μ-loop
 add-i c = omega (arith, c .before .before .before .before .before .loop .inv .at-slot .here)
@@ -90,9 +77,10 @@ loop-less c = search needs
 
 loop-again : tie.Need-loop-again Inv-loop μ-loop
 loop-again c =
-    searching-next _ _ _ _ _ _ _ _ (c .before .before .before .before .before .loop .inv)
-    (c .before .before .before .before .before .before .before .before .before .before .before .before .pre .1) (search needs)
-    (omega (arith, c .before .before .if1 .left)) (sym (c .before .is-name .ensures) ∙ c .if2 .left)
+    let c5 = c .before .before .before .before .before in
+    let start = c5 .before .before .before .before .before .before .before in
+    searching-next _ _ _ _ _ _ _ _ (c5 .loop .inv) (start .pre .1) (search needs) (omega (arith, c .before .before .if1 .left))
+    (sym (c .before .is-name .ensures) ∙ c .if2 .left)
 
 returns-3 : tie.Need-returns-3 Inv-loop μ-loop
 returns-3 c = searching-end _ _ _ _ _ _ _ _ (c .before .loop .inv) (search needs)

@@ -25,11 +25,9 @@ shared-slice-read-if1 : tie.Need-shared-slice-read-if1 Inv-loop μ-loop
 shared-slice-read-if1 c = omega (arith, c .before .before .loop .inv .at-slot .here)
 
 returns : tie.Need-returns Inv-loop μ-loop
-returns c = (
-  freeing-found _ _ _ (c .before .before .before .loop .inv) (search needs) (c .if1 .taken),
-  omega
-      (arith, c .before .before .before .loop .inv .at-slot .here),
-)
+returns c =
+    let c3 = c .before .before .before in
+    (freeing-found _ _ _ (c3 .loop .inv) (search needs) (c .if1 .taken), omega (arith, c3 .loop .inv .at-slot .here))
 
 add-j : tie.Need-add-j Inv-loop μ-loop
 add-j c = omega (arith, c .before .before .before .loop .inv .at-slot .here)

@@ -17,12 +17,10 @@ group-of-requires : tie.Need-group-of-requires
 group-of-requires c κs = search needs
 
 find-requires : tie.Need-find-requires
-find-requires c κs = (
-  span-at _ _ _ _ _ (c .before .before .before .before .before .before .before .pre .0)
-      (kindOf (c .before .before .before .before .before .before .before .args .kind)) _ (c .group-of .ensures),
-  c .before .before .before .before .before .before .before .pre .1,
-  c .before .before .before .before .before .before .before .pre .2,
-)
+find-requires c κs =
+    let start = c .before .before .before .before .before .before .before in
+    let pre = start .pre in
+    (span-at _ _ _ _ _ (pre .0) (kindOf (start .args .kind)) _ (c .group-of .ensures), pre .1, pre .2)
 
 returns-2 : tie.Need-returns-2
 returns-2 c = looked _ _ _ _ _ _ _ _ (c .before .group-of .ensures) (c .find .ensures)

@@ -12,10 +12,14 @@ returns-3 : tie.Need-returns-3
 returns-3 c = met-7 _ _ _ _ (c .before .before .if1 .left) (c .before .if2 .left) (c .if3 .taken)
 
 returns-4 : tie.Need-returns-4
-returns-4 c = met-5 _ _ _ _ (c .before .before .before .if1 .left) (c .before .before .if2 .left) (c .before .if3 .left) (c .if4 .taken)
+returns-4 c =
+    let c3 = c .before .before .before in
+    met-5 _ _ _ _ (c3 .if1 .left) (c .before .before .if2 .left) (c .before .if3 .left) (c .if4 .taken)
 
 returns-5 : tie.Need-returns-5
-returns-5 c = met-none _ _ _ _ (c .before .before .before .if1 .left) (c .before .before .if2 .left) (c .before .if3 .left) (c .if4 .left)
+returns-5 c =
+    let c3 = c .before .before .before in
+    met-none _ _ _ _ (c3 .if1 .left) (c .before .before .if2 .left) (c .before .if3 .left) (c .if4 .left)
 
 pub first-met-spec : {M : Type 1} → statement M
 first-met-spec = tie.close (tie.spec returns returns-2 returns-3 returns-4 returns-5)

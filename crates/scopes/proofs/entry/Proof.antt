@@ -25,7 +25,9 @@ shared-slice-read-result : tie.Need-shared-slice-read-result
 shared-slice-read-result c = search needs
 
 returns : tie.Need-returns
-returns c = ap₂ (λ x y. getD (c .before .before .before .before .args .t .now) (c .before .before .before .before .args .at + x * 64 + y) 0) (c .before .before .wide .ensures .0) (c .before .wide2 .ensures .0)
+returns c =
+    let start = c .before .before .before .before in
+    ap₂ (λ x y. getD (start .args .t .now) (start .args .at + x * 64 + y) 0) (c .before .before .wide .ensures .0) (c .before .wide2 .ensures .0)
 
 pub entry-spec : {M : Type 1} → statement M
 entry-spec =

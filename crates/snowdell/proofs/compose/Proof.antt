@@ -36,7 +36,10 @@ same-length-2 : tie.Need-same-length-2
 same-length-2 c = search needs
 
 returns-3 : tie.Need-returns-3
-returns-3 c = compose-promises _ _ _ _ _ _ (ap (composedOf (c .before .before .before .before .before .before .before .before .compose-within .result) _) (c .before .before .clear .ensures ∙ c .before .before .before .before .before .before .before .before .compose-within .ensures .1) ∙ c .before .before .before .before .before .before .before .before .compose-within .ensures .0)
+returns-3 c =
+    let compose-within = c .before .before .before .before .before .before .before .before .compose-within in
+    compose-promises _ _ _ _ _ _
+    (ap (composedOf (compose-within .result) _) (c .before .before .clear .ensures ∙ compose-within .ensures .1) ∙ compose-within .ensures .0)
 
 pub compose-spec : {M : Type 1} → statement M
 compose-spec =

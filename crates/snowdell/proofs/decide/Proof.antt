@@ -27,7 +27,10 @@ same-length : tie.Need-same-length
 same-length c = search needs
 
 returns-2 : tie.Need-returns-2
-returns-2 c = decide-promises _ _ _ _ _ _ _ (ap (decidedOf (c .before .before .before .before .before .before .decide-within .result)) (c .before .before .clear .ensures ∙ c .before .before .before .before .before .before .decide-within .ensures .1) ∙ c .before .before .before .before .before .before .decide-within .ensures .0)
+returns-2 c =
+    let decide-within = c .before .before .before .before .before .before .decide-within in
+    decide-promises _ _ _ _ _ _ _
+    (ap (decidedOf (decide-within .result)) (c .before .before .clear .ensures ∙ decide-within .ensures .1) ∙ decide-within .ensures .0)
 
 pub decide-spec : {M : Type 1} → statement M
 decide-spec =

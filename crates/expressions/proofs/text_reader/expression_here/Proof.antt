@@ -18,9 +18,11 @@ use ghost.Atoms.{Atoms, sem}
 use contract.Lifetimes.{Lfts}
 use contract.Monad.{Fun, fact}
 use contract.Running.{givenOf, tables, tablesOf}
-use types.Kit.{Given, ‵, raw, _⊛_, given, ⋆, some, later, _$_, _∵_, !, qed, by, move, drop, use1, split, learn, pick, fsplit, fjoin, suffices, frame, await, done}
+use types.Kit.{Given, ‵, raw, _⊛_, given, ⋆, some, later, _$_, _∵_, !, qed, by, move, drop, use1, split, learn, pick, fsplit, fjoin, suffices, frame, await}
+use types.Kit.{done}
 use types.Part.{whole, sub, look-in}
-use types.Run.{look, init, forget, stop, fld, from, load, of-opd, and-then, no-more, assigns, land, returns, enter, alloc1, alloc0, params1, pass1, pass0, free1, free0}
+use types.Run.{look, init, forget, stop, fld, from, load, of-opd, and-then, no-more, assigns, land, returns, enter, alloc1, alloc0, params1, pass1, pass0}
+use types.Run.{free1, free0}
 use sound.WpLaws.{FmC, fmOf, WpFn-mono}
 use denote.RattleType.{RattleType, owns}
 use denote.Laws.{Is, shows}
@@ -77,7 +79,19 @@ abbrev halves : Slot 1
 halves = shrSliceOf (0 ∷ []) tt (plain (λ _. u16))
 
 abbrev stayed : Stays (here.ended .signature .params) (here.ended .kept)
-stayed = (stay-dropped (plain B) yes, (stay-dropped (plain (λ _. usize)) yes, (stay-dropped bytes yes, (stay-dropped halves yes, (stay-dropped halves yes, (stay-dropped bytes yes, (stay-dropped (plain (λ _. N.the-row)) yes, (stay-dropped (plain (λ _. P.the-row)) yes, tt))))))))
+stayed = (
+  stay-dropped (plain B) yes,
+  (
+    stay-dropped (plain (λ _. usize)) yes,
+    (
+      stay-dropped bytes yes,
+      (
+        stay-dropped halves yes,
+        (stay-dropped halves yes, (stay-dropped bytes yes, (stay-dropped (plain (λ _. N.the-row)) yes, (stay-dropped (plain (λ _. P.the-row)) yes, tt)))),
+      ),
+    ),
+  ),
+)
 
 module _ {M : Type 1} (𝓤 : URA M) (H : Heap 𝓤) (A : Atoms 𝓤) (mem : Memory → SProp 𝓤) (run : Routine → Fun 𝓤) where
   -- the contract that the proof cites
@@ -85,7 +99,8 @@ module _ {M : Type 1} (𝓤 : URA M) (H : Heap 𝓤) (A : Atoms 𝓤) (mem : Mem
   Expression = tripleOf 𝓤 H A expression.signature (expression.spec 𝓤 H A mem run)
 
 -- the reader d and the other arguments, with the machine values of the last two
-module _ {M : Type 1} (𝓤 : URA M) (H : Heap 𝓤) (A : Atoms 𝓤) (W : Given 𝓤 H A) (mem : Memory → SProp 𝓤) (run : Routine → Fun 𝓤) (κ : Lft) (q : Share) (d : Reader) (n : ℕ) (f ss es ts : RefT (List ℕ)) (c : NameCounts) (p : Program) (wc wp : Val) where
+module _ {M : Type 1} (𝓤 : URA M) (H : Heap 𝓤) (A : Atoms 𝓤) (W : Given 𝓤 H A) (mem : Memory → SProp 𝓤) (run : Routine → Fun 𝓤) (κ : Lft) (q : Share)
+    (d : Reader) (n : ℕ) (f ss es ts : RefT (List ℕ)) (c : NameCounts) (p : Program) (wc wp : Val) where
   abbrev mach : Val
   mach = T′.lowered d
 
@@ -137,7 +152,8 @@ module _ {M : Type 1} (𝓤 : URA M) (H : Heap 𝓤) (A : Atoms 𝓤) (W : Given
   apart : Ok → ent 𝓤 (onEntry 𝓤 H A here.signature (κ, tt) (q, tt) a vals) (Expression 𝓤 H A mem run .pre to)
   apart ok =
       qed W ((‵ (flft κ q) ⊛ ‵ ftrue) ∷ ‵ (owns (B (κ, tt) ∷ others) a vals) ∷ []) ∵
-      move ! (1 ∷ []) $ fsplit ! $ use1 W (given (mach ∷ [] ≡ mach ∷ []) (‵ (all-own (D .parts) L vd))) (own-open 𝓤 H A W D L vd mach) $ learn ! (λ _. fsplit ! $ move ! (1 ∷ []) $ fsplit ! $
+      move ! (1 ∷ []) $ fsplit ! $ use1 W (given (mach ∷ [] ≡ mach ∷ []) (‵ (all-own (D .parts) L vd))) (own-open 𝓤 H A W D L vd mach) $ learn
+      ! (λ _. fsplit ! $ move ! (1 ∷ []) $ fsplit ! $
       -- [what at owns; true; what text owns; what the others own; the token]
       move ! (0 ∷ 3 ∷ []) $ fjoin ! $ move ! (2 ∷ 0 ∷ []) $ fjoin ! $ move ! (1 ∷ []) $ drop ! $ move ! (1 ∷ 0 ∷ []) $ says ! ok $ frame ! $ done !)
 
@@ -148,54 +164,106 @@ module _ {M : Type 1} (𝓤 : URA M) (H : Heap 𝓤) (A : Atoms 𝓤) (W : Given
   exits : (m : Made) (u : Val) → Found m → ent 𝓤 (⋆ 𝓤 H A (‵ (R.the-row .own m (u ∷ [])) ∷ (‵ (flft κ q) ⊛ ‵ ftrue) ∷ [])) (Post u)
   exits m u e =
       qed W (‵ (R.the-row .own m (u ∷ [])) ∷ (‵ (flft κ q) ⊛ ‵ ftrue) ∷ []) ∵
-      suffices ! _ (ends-at 𝓤 H A here.ended stayed (here.clauses 𝓤 H A mem run) W (((κ, tt), (q, tt), tt, a, vals), tt) u m (tt, (tt, (tt, (tt, (tt, (tt, (tt, (tt, tt)))))))) (tt, (tt, (tt, (tt, (tt, (tt, (tt, (tt, tt))))))))) $ says ! e $
-      move ! (1 ∷ []) $ frame ! $ nothing ! $ nothing ! $ fjoin ! $ nothing ! $ fjoin ! $ nothing ! $ fjoin ! $ nothing ! $ fjoin ! $ nothing ! $ fjoin ! $ nothing ! $ fjoin ! $ nothing ! $ fjoin ! $ nothing ! $ fjoin ! $ frame ! $ done !
+      suffices ! _ (ends-at 𝓤 H A here.ended stayed (here.clauses 𝓤 H A mem run) W (((κ, tt), (q, tt), tt, a, vals), tt) u m
+      (tt, (tt, (tt, (tt, (tt, (tt, (tt, (tt, tt)))))))) (tt, (tt, (tt, (tt, (tt, (tt, (tt, (tt, tt))))))))) $ says ! e $
+      move ! (1 ∷ []) $ frame ! $ nothing ! $ nothing ! $ fjoin ! $ nothing ! $ fjoin ! $ nothing ! $ fjoin ! $ nothing ! $ fjoin ! $ nothing ! $ fjoin !
+      $ nothing ! $ fjoin ! $ nothing ! $ fjoin ! $ nothing ! $ fjoin ! $ frame ! $ done !
 
   module _ (C : Calls 𝓤 H) (Λ : Loops 𝓤 H) (fm : FmC 𝓤 H (W .laws) C) (known : Triple 𝓤 (C #expressions·expression) (Expression 𝓤 H A mem run)) where
-    walk : Ok → Holds (hasTy (T′.mir (named 0)) mach) × WT mach → n < 2 ^ 64 → Is (ShrSlice (named 0) κ u8) f (v f ∷ []) → Is (ShrSlice (named 0) κ u16) ss (v ss ∷ []) → Is (ShrSlice (named 0) κ u16) es (v es ∷ []) → Is (ShrSlice (named 0) κ u8) ts (v ts ∷ [])
-        → Holds (hasTy N′.mir wc) × WT wc → Holds (hasTy P′.mir wp) × WT wp
-        → ent 𝓤 (onEntry 𝓤 H A here.signature (κ, tt) (q, tt) a vals) (WpFn 𝓤 H C Λ code.function (mach ∷ vint w64 n ∷ v f ∷ v ss ∷ v es ∷ v ts ∷ wc ∷ wp ∷ []) Post)
+    walk : Ok → Holds (hasTy (T′.mir (named 0)) mach) × WT mach → n < 2 ^ 64 → Is (ShrSlice (named 0) κ u8) f (v f ∷ [])
+        → Is (ShrSlice (named 0) κ u16) ss (v ss ∷ []) → Is (ShrSlice (named 0) κ u16) es (v es ∷ []) → Is (ShrSlice (named 0) κ u8) ts (v ts ∷ [])
+        → Holds (hasTy N′.mir wc) × WT wc → Holds (hasTy P′.mir wp) × WT wp → ent 𝓤 (onEntry 𝓤 H A here.signature (κ, tt) (q, tt) a vals)
+        (WpFn 𝓤 H C Λ code.function (mach ∷ vint w64 n ∷ v f ∷ v ss ∷ v es ∷ v ts ∷ wc ∷ wp ∷ []) Post)
     walk ok wt fits pf ps pe pt tc tp =
-        qed W (raw (onEntry 𝓤 H A here.signature (κ, tt) (q, tt) a vals) ∷ []) ∵ enter ! C Λ code.function (mach ∷ vint w64 n ∷ v f ∷ v ss ∷ v es ∷ v ts ∷ wc ∷ wp ∷ []) _ $
-        alloc1 ! (λ l₀. alloc1 ! (λ l₁. alloc1 ! (λ l₂. alloc1 ! (λ l₃. alloc1 ! (λ l₄. alloc1 ! (λ l₅. alloc1 ! (λ l₆. alloc1 ! (λ l₇. alloc1 ! (λ l₈. alloc1 ! (λ l₉. alloc1 ! (λ l₁₀. alloc0 ! $ params1 ! $
+        qed W (raw (onEntry 𝓤 H A here.signature (κ, tt) (q, tt) a vals) ∷ []) ∵ enter
+        ! C Λ code.function (mach ∷ vint w64 n ∷ v f ∷ v ss ∷ v es ∷ v ts ∷ wc ∷ wp ∷ []) _ $
+        alloc1 ! (λ l₀. alloc1 ! (λ l₁. alloc1 ! (λ l₂. alloc1
+        ! (λ l₃. alloc1 ! (λ l₄. alloc1 ! (λ l₅. alloc1 ! (λ l₆. alloc1 ! (λ l₇. alloc1 ! (λ l₈. alloc1 ! (λ l₉. alloc1 ! (λ l₁₀. alloc0 ! $ params1 ! $
         pass1 ! (init ! 18 refl wt) $ pass1 ! (init ! 16 refl (tt, record { fits = fits })) $
-        pass1 ! (init ! 14 refl (shr-slice-lawful 𝓤 H A W (named 0) κ u8 .typed f (v f ∷ []) pf .0)) $ pass1 ! (init ! 12 refl (shr-slice-lawful 𝓤 H A W (named 0) κ u16 .typed ss (v ss ∷ []) ps .0)) $
-        pass1 ! (init ! 10 refl (shr-slice-lawful 𝓤 H A W (named 0) κ u16 .typed es (v es ∷ []) pe .0)) $ pass1 ! (init ! 8 refl (shr-slice-lawful 𝓤 H A W (named 0) κ u8 .typed ts (v ts ∷ []) pt .0)) $
+        pass1 ! (init ! 14 refl (shr-slice-lawful 𝓤 H A W (named 0) κ u8 .typed f (v f ∷ []) pf .0)) $ pass1
+        ! (init ! 12 refl (shr-slice-lawful 𝓤 H A W (named 0) κ u16 .typed ss (v ss ∷ []) ps .0)) $
+        pass1 ! (init ! 10 refl (shr-slice-lawful 𝓤 H A W (named 0) κ u16 .typed es (v es ∷ []) pe .0)) $ pass1
+        ! (init ! 8 refl (shr-slice-lawful 𝓤 H A W (named 0) κ u8 .typed ts (v ts ∷ []) pt .0)) $
         pass1 ! (init ! 6 refl tc) $ pass1 ! (init ! 4 refl tp) $ pass0 ! $
         -- [_10; …; _9; …; _8; …; _1; …; room for _0; …; the token and what the parameters own]
         assigns ! (of-opd ! (load ! (from ! (fld ! refl (stop !))) (look-in ! 18 (sub ! 0 refl (whole !))))) (from ! (stop !)) (init ! 2 refl (tt, wt .1 .0)) $
-        assigns ! (of-opd ! (load ! (from ! (fld ! refl (stop !))) (look-in ! 18 (sub ! 1 refl (whole !))))) (from ! (stop !)) (init ! 0 refl (tt, wt .1 .1 .0)) $
+        assigns ! (of-opd ! (load ! (from ! (fld ! refl (stop !))) (look-in ! 18 (sub ! 1 refl (whole !))))) (from ! (stop !))
+        (init ! 0 refl (tt, wt .1 .1 .0)) $
         move ! (22 ∷ []) $ use1 W (raw (Expression 𝓤 H A mem run .pre to)) (apart ok) $
         calls-at ! fm (Expression 𝓤 H A mem run) known to
-        (and-then ! (load ! (from ! (stop !)) (look ! 3 refl)) (and-then ! (load ! (from ! (stop !)) (look ! 1 refl)) (and-then ! (load ! (from ! (stop !)) (look ! 17 refl)) (and-then ! (load ! (from ! (stop !)) (look ! 15 refl)) (and-then ! (load ! (from ! (stop !)) (look ! 13 refl))
-        (and-then ! (load ! (from ! (stop !)) (look ! 11 refl)) (and-then ! (load ! (from ! (stop !)) (look ! 9 refl)) (and-then ! (load ! (from ! (stop !)) (look ! 7 refl)) (and-then ! (load ! (from ! (stop !)) (look ! 5 refl)) (no-more !)))))))))) (λ u.
-        use1 W (later (some (λ (m : Made). ((‵ (flft κ q) ⊛ ‵ ftrue) ⊛ ‵ (R.the-row .own m (u ∷ []))) ⊛ raw (ensured 𝓤 H A expression.ended (expression.clauses 𝓤 H A mem run) (κ, tt) b tt m)))) (id⊢ 𝓤 _) $ await ! tt $ pick ! (λ m.
+        (and-then ! (load ! (from ! (stop !)) (look ! 3 refl))
+        (and-then ! (load ! (from ! (stop !)) (look ! 1 refl))
+        (and-then ! (load ! (from ! (stop !)) (look ! 17 refl))
+        (and-then ! (load ! (from ! (stop !)) (look ! 15 refl)) (and-then ! (load ! (from ! (stop !)) (look ! 13 refl))
+        (and-then ! (load ! (from ! (stop !)) (look ! 11 refl))
+        (and-then ! (load ! (from ! (stop !)) (look ! 9 refl))
+        (and-then ! (load ! (from ! (stop !)) (look ! 7 refl)) (and-then ! (load ! (from ! (stop !)) (look ! 5 refl)) (no-more !)))))))))) (λ u.
+        use1 W (later (some (λ (m : Made). ((‵ (flft κ q) ⊛ ‵ ftrue) ⊛ ‵ (R.the-row .own m (u ∷ [])))
+        ⊛ raw (ensured 𝓤 H A expression.ended (expression.clauses 𝓤 H A mem run) (κ, tt) b tt m)))) (id⊢ 𝓤 _) $ await ! tt $ pick ! (λ m.
         split ! $ move ! (1 ∷ []) $ use1 W (raw (fact 𝓤 (Found m))) (said m) $ heard ! (Found m) (λ e. split ! $ move ! (1 ∷ []) $
         -- [the result; the token; _10; …; _9; …; _1; …; room for _0; …]
         peeks ! R.the-row (Is R.the-row) (shows 𝓤 H A R.the-row) m (u ∷ []) (λ is.
         land ! (from ! (stop !)) (init ! 22 refl (LL.lawful R.the-type R′.the-laws 𝓤 H A W .typed m _ is .0)) $
-        returns ! (look ! 22 refl) $ forget ! 2 refl $ forget ! 4 refl $ forget ! 6 refl $ forget ! 8 refl $ forget ! 10 refl $ forget ! 12 refl $ forget ! 14 refl $ forget ! 16 refl $ forget ! 18 refl $ forget ! 20 refl $ forget ! 22 refl $
-        move ! (22 ∷ 23 ∷ []) $ free1 ! $ move ! (20 ∷ 21 ∷ []) $ free1 ! $ move ! (18 ∷ 19 ∷ []) $ free1 ! $ move ! (16 ∷ 17 ∷ []) $ free1 ! $ move ! (14 ∷ 15 ∷ []) $ free1 ! $ move ! (12 ∷ 13 ∷ []) $ free1 ! $
-        move ! (10 ∷ 11 ∷ []) $ free1 ! $ move ! (8 ∷ 9 ∷ []) $ free1 ! $ move ! (6 ∷ 7 ∷ []) $ free1 ! $ move ! (4 ∷ 5 ∷ []) $ free1 ! $ move ! (2 ∷ 3 ∷ []) $ free1 ! $ free0 ! $ by ! (exits m u e))))))))))))))))
+        returns ! (look ! 22 refl) $ forget ! 2 refl $ forget ! 4 refl $ forget ! 6 refl $ forget ! 8 refl $ forget ! 10 refl $ forget ! 12 refl $ forget
+        ! 14 refl $ forget ! 16 refl $ forget ! 18 refl $ forget ! 20 refl $ forget ! 22 refl $
+        move ! (22 ∷ 23 ∷ []) $ free1 ! $ move ! (20 ∷ 21 ∷ []) $ free1 ! $ move ! (18 ∷ 19 ∷ []) $ free1 ! $ move ! (16 ∷ 17 ∷ []) $ free1 ! $ move
+        ! (14 ∷ 15 ∷ []) $ free1 ! $ move ! (12 ∷ 13 ∷ []) $ free1 ! $
+        move ! (10 ∷ 11 ∷ []) $ free1 ! $ move ! (8 ∷ 9 ∷ []) $ free1 ! $ move ! (6 ∷ 7 ∷ []) $ free1 ! $ move ! (4 ∷ 5 ∷ []) $ free1 ! $ move
+        ! (2 ∷ 3 ∷ []) $ free1 ! $ free0 ! $ by ! (exits m u e))))))))))))))))
 
 module _ {M : Type 1} (𝓤 : URA M) (H : Heap 𝓤) (A : Atoms 𝓤) (W : Given 𝓤 H A) (mem : Memory → SProp 𝓤) (run : Routine → Fun 𝓤) where
-  here-walks : (C : Calls 𝓤 H) (Λ : Loops 𝓤 H) → FmC 𝓤 H (W .laws) C → Triple 𝓤 (C #expressions·expression) (Expression 𝓤 H A mem run) → Walks 𝓤 H A here.ended stayed (WpFn 𝓤 H C Λ code.function) (here.clauses 𝓤 H A mem run)
-  here-walks C Λ fm known = walked 𝓤 H A here.ended stayed (here.clauses 𝓤 H A mem run) (WpFn 𝓤 H C Λ code.function)
-      (λ κs. (LL.vals (T.the-type (namedLft 1 0 tt κs)) (T′.the-laws (namedLft 1 0 tt κs)), (uint-vals w64, (slice-vals, (slice-vals, (slice-vals, (slice-vals, (LL.vals N.the-type N′.the-laws, (LL.vals P.the-type P′.the-laws, tt)))))))))
-      (λ κs. (LL.tells (T.the-type (namedLft 1 0 tt κs)) (T′.the-laws (namedLft 1 0 tt κs)), (uint-tells w64, (shr-slice-tells (named 0) (κs .0) u8, (shr-slice-tells (named 0) (κs .0) u16, (shr-slice-tells (named 0) (κs .0) u16, (shr-slice-tells (named 0) (κs .0) u8, (LL.tells N.the-type N′.the-laws, (LL.tells P.the-type P′.the-laws, tt)))))))))
-      (λ κs qs bounds a g are. needs 𝓤 _ _ (λ ok.
-      walk 𝓤 H A W mem run (κs .0) (qs .0) (a .0) (a .1 .0) (a .1 .1 .0) (a .1 .1 .1 .0) (a .1 .1 .1 .1 .0) (a .1 .1 .1 .1 .1 .0) (a .1 .1 .1 .1 .1 .1 .0) (a .1 .1 .1 .1 .1 .1 .1 .0) (LL.val N.the-type N′.the-laws (a .1 .1 .1 .1 .1 .1 .0)) (LL.val P.the-type P′.the-laws (a .1 .1 .1 .1 .1 .1 .1 .0)) C Λ fm known ok
-      (LL.lawful (T.the-type (namedLft 1 0 tt κs)) (T′.the-laws (namedLft 1 0 tt κs)) 𝓤 H A W .typed (a .0) _ (are .0) .0) (are .1 .0 .1) (are .1 .1 .0) (are .1 .1 .1 .0) (are .1 .1 .1 .1 .0) (are .1 .1 .1 .1 .1 .0)
-      (LL.lawful N.the-type N′.the-laws 𝓤 H A W .typed (a .1 .1 .1 .1 .1 .1 .0) _ (are .1 .1 .1 .1 .1 .1 .0) .0) (LL.lawful P.the-type P′.the-laws 𝓤 H A W .typed (a .1 .1 .1 .1 .1 .1 .1 .0) _ (are .1 .1 .1 .1 .1 .1 .1 .0) .0)))
+  here-walks : (C : Calls 𝓤 H) (Λ : Loops 𝓤 H) → FmC 𝓤 H (W .laws) C → Triple 𝓤 (C #expressions·expression) (Expression 𝓤 H A mem run)
+      → Walks 𝓤 H A here.ended stayed (WpFn 𝓤 H C Λ code.function) (here.clauses 𝓤 H A mem run)
+  here-walks C Λ fm known = walked 𝓤 H A here.ended stayed (here.clauses 𝓤 H A mem run) (WpFn 𝓤 H C Λ code.function) (λ κs. (
+    LL.vals (T.the-type (namedLft 1 0 tt κs)) (T′.the-laws (namedLft 1 0 tt κs)),
+    (uint-vals w64, (slice-vals, (slice-vals, (slice-vals, (slice-vals, (LL.vals N.the-type N′.the-laws, (LL.vals P.the-type P′.the-laws, tt))))))),
+  )) (λ κs. let shr-slice-tells' = shr-slice-tells (named 0) (κs .0) in (
+    LL.tells (T.the-type (namedLft 1 0 tt κs)) (T′.the-laws (namedLft 1 0 tt κs)),
+    (
+      uint-tells w64,
+      (
+        shr-slice-tells' u8,
+        (shr-slice-tells' u16, (shr-slice-tells' u16, (shr-slice-tells' u8, (LL.tells N.the-type N′.the-laws, (LL.tells P.the-type P′.the-laws, tt))))),
+      ),
+    ),
+  )) (λ κs qs bounds a g are. needs 𝓤 _ _ (λ ok. walk 𝓤 H A W mem run (κs .0) (qs .0) (a .0) (a .1 .0) (a .1 .1 .0) (a .1 .1 .1 .0) (a .1 .1 .1 .1 .0)
+      (a .1 .1 .1 .1 .1 .0) (a .1 .1 .1 .1 .1 .1 .0) (a .1 .1 .1 .1 .1 .1 .1 .0) (LL.val N.the-type N′.the-laws (a .1 .1 .1 .1 .1 .1 .0))
+      (LL.val P.the-type P′.the-laws (a .1 .1 .1 .1 .1 .1 .1 .0)) C Λ fm known ok
+      (LL.lawful (T.the-type (namedLft 1 0 tt κs)) (T′.the-laws (namedLft 1 0 tt κs)) 𝓤 H A W .typed (a .0) _ (are .0) .0) (are .1 .0 .1) (are .1 .1 .0)
+      (are .1 .1 .1 .0) (are .1 .1 .1 .1 .0) (are .1 .1 .1 .1 .1 .0)
+      (LL.lawful N.the-type N′.the-laws 𝓤 H A W .typed (a .1 .1 .1 .1 .1 .1 .0) _ (are .1 .1 .1 .1 .1 .1 .0) .0)
+      (LL.lawful P.the-type P′.the-laws 𝓤 H A W .typed (a .1 .1 .1 .1 .1 .1 .1 .0) _ (are .1 .1 .1 .1 .1 .1 .1 .0) .0)))
 
   -- nothing is said of any parameter at exit
   gone : AllGo 𝓤 H A W 1 (here.ended .signature .params) (here.ended .kept) stayed
-  gone = (goes-dropped 𝓤 H A W 1 (plain B) yes (λ κs x f. refl), (goes-dropped 𝓤 H A W 1 (plain (λ _. usize)) yes (λ κs x f. refl), (goes-dropped 𝓤 H A W 1 bytes yes (λ κs x f. refl), (goes-dropped 𝓤 H A W 1 halves yes (λ κs x f. refl), (goes-dropped 𝓤 H A W 1 halves yes (λ κs x f. refl), (goes-dropped 𝓤 H A W 1 bytes yes (λ κs x f. refl), (goes-dropped 𝓤 H A W 1 (plain (λ _. N.the-row)) yes (λ κs x f. refl), (goes-dropped 𝓤 H A W 1 (plain (λ _. P.the-row)) yes (λ κs x f. refl), tt))))))))
+  gone = (
+    goes-dropped 𝓤 H A W 1 (plain B) yes (λ κs x f. refl),
+    (
+      goes-dropped 𝓤 H A W 1 (plain (λ _. usize)) yes (λ κs x f. refl),
+      (
+        goes-dropped 𝓤 H A W 1 bytes yes (λ κs x f. refl),
+        (
+          goes-dropped 𝓤 H A W 1 halves yes (λ κs x f. refl),
+          (
+            goes-dropped 𝓤 H A W 1 halves yes (λ κs x f. refl),
+            (
+              goes-dropped 𝓤 H A W 1 bytes yes (λ κs x f. refl),
+              (
+                goes-dropped 𝓤 H A W 1 (plain (λ _. N.the-row)) yes (λ κs x f. refl),
+                (goes-dropped 𝓤 H A W 1 (plain (λ _. P.the-row)) yes (λ κs x f. refl), tt),
+              ),
+            ),
+          ),
+        ),
+      ),
+    ),
+  )
 
 here-meets : {M : Type 1} (𝓤 : URA M) (H : Heap 𝓤) (A : Atoms 𝓤) (W : Given 𝓤 H A) (mem : Memory → SProp 𝓤) (run : Routine → Fun 𝓤) (𝓣 : Tables 𝓤 H)
     → Triple 𝓤 (𝓣 .C #expressions·expression) (Expression 𝓤 H A mem run)
     → Meets 𝓤 H A here.signature (WpFn 𝓤 H (𝓣 .C) (𝓣 .Λ) code.function) (here.spec 𝓤 H A mem run)
-here-meets 𝓤 H A W mem run 𝓣 known = walk-meets 𝓤 H A here.ended stayed W (gone 𝓤 H A W mem run) (here.clauses 𝓤 H A mem run) (WpFn 𝓤 H (𝓣 .C) (𝓣 .Λ) code.function) (WpFn-mono 𝓤 H (W .laws) 𝓣 code.function)
+here-meets 𝓤 H A W mem run 𝓣 known = walk-meets 𝓤 H A here.ended stayed W (gone 𝓤 H A W mem run) (here.clauses 𝓤 H A mem run)
+    (WpFn 𝓤 H (𝓣 .C) (𝓣 .Λ) code.function) (WpFn-mono 𝓤 H (W .laws) 𝓣 code.function)
     (here-walks 𝓤 H A W mem run (𝓣 .C) (𝓣 .Λ) (fmOf 𝓤 H (W .laws) 𝓣) known)
 
 pub expression-here-spec : {M : Type 1} → stated.statement M
@@ -204,4 +272,5 @@ expression-here-spec 𝓤 H 𝓜 𝓖 𝓡 =
     entered 𝓤 H (tripleOf 𝓤 H (𝓖 .A) here.signature (here.spec 𝓤 H (𝓖 .A) (𝓜 .mem) (𝓡 .run)))
     (tables 𝓤 H 𝓜 𝓡 code.env .C) (tables 𝓤 H 𝓜 𝓡 code.env .Λ) #expressions·text-reader·expression-here code.function (code.unfolded 𝓤 H 𝓜 𝓡)
     (here-meets 𝓤 H (𝓖 .A) (givenOf 𝓤 H 𝓜 𝓖) (𝓜 .mem) (𝓡 .run) (tablesOf 𝓤 H 𝓜 (tables 𝓤 H 𝓜 𝓡 code.env))
-    (cited 𝓤 H (Expression 𝓤 H (𝓖 .A) (𝓜 .mem) (𝓡 .run)) 𝓜 𝓡 code.env #expressions·expression expression-def.routine code.calls-expressions·expression (expression-thm.met 𝓤 H 𝓜 𝓖 𝓡)))
+    (cited 𝓤 H (Expression 𝓤 H (𝓖 .A) (𝓜 .mem) (𝓡 .run)) 𝓜 𝓡 code.env #expressions·expression expression-def.routine code.calls-expressions·expression
+    (expression-thm.met 𝓤 H 𝓜 𝓖 𝓡)))

@@ -20,7 +20,8 @@ use ghost.Atoms.{Atoms, sem}
 use contract.Lifetimes.{Lfts}
 use contract.Monad.{Fun, fact}
 use contract.Running.{givenOf, tables, tablesOf}
-use types.Kit.{Given, ‵, raw, _⊛_, ⋆, some, later, _$_, _∵_, !, qed, by, move, use1, use2, use3, split, join, pick, rewrite, fsplit, fjoin, suffices, frame, await, done}
+use types.Kit.{Given, ‵, raw, _⊛_, ⋆, some, later, _$_, _∵_, !, qed, by, move, use1, use2, use3, split, join, pick, rewrite, fsplit, fjoin, suffices, frame}
+use types.Kit.{await, done}
 use types.Run.{look, init, forget, stop, from, load, lit, and-then, no-more, land, returns, enter, alloc1, alloc0, params1, pass1, pass0, free1, free0}
 use sound.WpLaws.{FmC, fmOf, WpFn-mono}
 use denote.RattleType.{RattleType, owns}
@@ -79,7 +80,19 @@ abbrev halves : Slot 1
 halves = shrSliceOf (0 ∷ []) tt (plain (λ _. u16))
 
 abbrev stayed : Stays (from-start.ended .signature .params) (from-start.ended .kept)
-stayed = (stay-dropped bytes yes, (stay-dropped (plain (λ _. usize)) yes, (stay-dropped bytes yes, (stay-dropped halves yes, (stay-dropped halves yes, (stay-dropped bytes yes, (stay-dropped (plain (λ _. N.the-row)) yes, (stay-dropped (plain (λ _. P.the-row)) yes, tt))))))))
+stayed = (
+  stay-dropped bytes yes,
+  (
+    stay-dropped (plain (λ _. usize)) yes,
+    (
+      stay-dropped bytes yes,
+      (
+        stay-dropped halves yes,
+        (stay-dropped halves yes, (stay-dropped bytes yes, (stay-dropped (plain (λ _. N.the-row)) yes, (stay-dropped (plain (λ _. P.the-row)) yes, tt)))),
+      ),
+    ),
+  ),
+)
 
 -- the place 0 is in every text
 within : (k : ℕ) → 0 ≤ k
@@ -94,7 +107,8 @@ module _ {M : Type 1} (𝓤 : URA M) (H : Heap 𝓤) (A : Atoms 𝓤) (mem : Mem
   Here = tripleOf 𝓤 H A here.signature (here.spec 𝓤 H A mem run)
 
 -- the text t and the other arguments, with the machine values of the last two
-module _ {M : Type 1} (𝓤 : URA M) (H : Heap 𝓤) (A : Atoms 𝓤) (W : Given 𝓤 H A) (mem : Memory → SProp 𝓤) (run : Routine → Fun 𝓤) (κ : Lft) (q : Share) (t : RefT (List ℕ)) (n : ℕ) (f ss es ts : RefT (List ℕ)) (c : NameCounts) (p : Program) (wc wp : Val) where
+module _ {M : Type 1} (𝓤 : URA M) (H : Heap 𝓤) (A : Atoms 𝓤) (W : Given 𝓤 H A) (mem : Memory → SProp 𝓤) (run : Routine → Fun 𝓤) (κ : Lft) (q : Share)
+    (t : RefT (List ℕ)) (n : ℕ) (f ss es ts : RefT (List ℕ)) (c : NameCounts) (p : Program) (wc wp : Val) where
   -- the machine value of a slice
   abbrev v : RefT (List ℕ) → Val
   v x = sliceVal (x .ptr) (length (x .now))
@@ -138,7 +152,9 @@ module _ {M : Type 1} (𝓤 : URA M) (H : Heap 𝓤) (A : Atoms 𝓤) (W : Given
       qed W ((‵ (flft κ q) ⊛ ‵ ftrue) ∷ ‵ (owns (ShrSlice (named 0) κ u8 ∷ others) a vals) ∷ []) ∵
       move ! (1 ∷ []) $ fsplit ! $ nothing ! $ owned ! usize (Is usize) (uint-makes 𝓤 H A W w64) 0 _ (refl, lit< tt) $ fjoin ! $ move ! (1 ∷ 0 ∷ []) $ fjoin ! $
       -- [what t and 0 own; what the others own; the token]
-      move ! (2 ∷ 0 ∷ []) $ use2 W (raw (Place 𝓤 H A mem run .pre to-place)) (qed W ((‵ (flft κ q) ⊛ ‵ ftrue) ∷ ‵ (owns (ShrSlice (named 0) κ u8 ∷ usize ∷ []) (t, (0, tt)) (v t ∷ [], (vint w64 0 ∷ [], tt))) ∷ []) ∵ join ! $ frame ! $ done !) $ frame ! $ done !
+      move ! (2 ∷ 0 ∷ []) $ use2 W (raw (Place 𝓤 H A mem run .pre to-place))
+      (qed W ((‵ (flft κ q) ⊛ ‵ ftrue) ∷ ‵ (owns (ShrSlice (named 0) κ u8 ∷ usize ∷ []) (t, (0, tt)) (v t ∷ [], (vint w64 0 ∷ [], tt))) ∷ []) ∵ join !
+      $ frame ! $ done !) $ frame ! $ done !
 
   place-said : (r : Reader) → ent 𝓤 (ensured 𝓤 H A place.ended (place.clauses 𝓤 H A mem run) (κ, tt) (t, (0, tt)) tt r) (fact 𝓤 ((r .text ≡ t) × (r .at ≡ 0)))
   place-said r = exE 𝓤 _ (λ ws. snd∗ 𝓤 (sem 𝓤 H A (lasts place.ended (κ, tt) (t, (0, tt)) ws)) (fact 𝓤 ((r .text ≡ t) × (r .at ≡ 0))))
@@ -151,7 +167,8 @@ module _ {M : Type 1} (𝓤 : URA M) (H : Heap 𝓤) (A : Atoms 𝓤) (W : Given
   to-here u = (((κ, tt), (q, tt), tt, b, (u ∷ [], vals .1)), tt)
 
   goes-here : Ok → (u : Val) → ent 𝓤 (⋆ 𝓤 H A (‵ (B (κ, tt) .own d (u ∷ [])) ∷ (‵ (flft κ q) ⊛ ‵ ftrue) ∷ ‵ Own ∷ [])) (Here 𝓤 H A mem run .pre (to-here u))
-  goes-here ok u = qed W (‵ (B (κ, tt) .own d (u ∷ [])) ∷ (‵ (flft κ q) ⊛ ‵ ftrue) ∷ ‵ Own ∷ []) ∵ move ! (0 ∷ 2 ∷ []) $ fjoin ! $ move ! (1 ∷ 0 ∷ []) $ says ! (ok, within _) $ frame ! $ done !
+  goes-here ok u = qed W (‵ (B (κ, tt) .own d (u ∷ [])) ∷ (‵ (flft κ q) ⊛ ‵ ftrue) ∷ ‵ Own ∷ []) ∵ move ! (0 ∷ 2 ∷ []) $ fjoin ! $ move ! (1 ∷ 0 ∷ []) $ says
+      ! (ok, within _) $ frame ! $ done !
 
   here-said : (m : Made) → ent 𝓤 (ensured 𝓤 H A here.ended (here.clauses 𝓤 H A mem run) (κ, tt) b tt m) (fact 𝓤 (Found m))
   here-said m = exE 𝓤 _ (λ ws. snd∗ 𝓤 (sem 𝓤 H A (lasts here.ended (κ, tt) b ws)) (fact 𝓤 (Found m)))
@@ -159,24 +176,34 @@ module _ {M : Type 1} (𝓤 : URA M) (H : Heap 𝓤) (A : Atoms 𝓤) (W : Given
   exits : (m : Made) (u : Val) → Found m → ent 𝓤 (⋆ 𝓤 H A (‵ (R.the-row .own m (u ∷ [])) ∷ (‵ (flft κ q) ⊛ ‵ ftrue) ∷ [])) (Post u)
   exits m u e =
       qed W (‵ (R.the-row .own m (u ∷ [])) ∷ (‵ (flft κ q) ⊛ ‵ ftrue) ∷ []) ∵
-      suffices ! _ (ends-at 𝓤 H A from-start.ended stayed (from-start.clauses 𝓤 H A mem run) W (((κ, tt), (q, tt), tt, a, vals), tt) u m (tt, (tt, (tt, (tt, (tt, (tt, (tt, (tt, tt)))))))) (tt, (tt, (tt, (tt, (tt, (tt, (tt, (tt, tt))))))))) $ says ! e $
-      move ! (1 ∷ []) $ frame ! $ nothing ! $ nothing ! $ fjoin ! $ nothing ! $ fjoin ! $ nothing ! $ fjoin ! $ nothing ! $ fjoin ! $ nothing ! $ fjoin ! $ nothing ! $ fjoin ! $ nothing ! $ fjoin ! $ nothing ! $ fjoin ! $ frame ! $ done !
+      suffices ! _ (ends-at 𝓤 H A from-start.ended stayed (from-start.clauses 𝓤 H A mem run) W (((κ, tt), (q, tt), tt, a, vals), tt) u m
+      (tt, (tt, (tt, (tt, (tt, (tt, (tt, (tt, tt)))))))) (tt, (tt, (tt, (tt, (tt, (tt, (tt, (tt, tt))))))))) $ says ! e $
+      move ! (1 ∷ []) $ frame ! $ nothing ! $ nothing ! $ fjoin ! $ nothing ! $ fjoin ! $ nothing ! $ fjoin ! $ nothing ! $ fjoin ! $ nothing ! $ fjoin !
+      $ nothing ! $ fjoin ! $ nothing ! $ fjoin ! $ nothing ! $ fjoin ! $ frame ! $ done !
 
-  module _ (C : Calls 𝓤 H) (Λ : Loops 𝓤 H) (fm : FmC 𝓤 H (W .laws) C) (known-place : Triple 𝓤 (C #expressions·text-reader·at-place) (Place 𝓤 H A mem run)) (known-here : Triple 𝓤 (C #expressions·text-reader·expression-here) (Here 𝓤 H A mem run)) where
-    walk : Ok → Is (ShrSlice (named 0) κ u8) t (v t ∷ []) → n < 2 ^ 64 → Is (ShrSlice (named 0) κ u8) f (v f ∷ []) → Is (ShrSlice (named 0) κ u16) ss (v ss ∷ []) → Is (ShrSlice (named 0) κ u16) es (v es ∷ []) → Is (ShrSlice (named 0) κ u8) ts (v ts ∷ [])
-        → Holds (hasTy N′.mir wc) × WT wc → Holds (hasTy P′.mir wp) × WT wp
-        → ent 𝓤 (onEntry 𝓤 H A from-start.signature (κ, tt) (q, tt) a vals) (WpFn 𝓤 H C Λ code.function (v t ∷ vint w64 n ∷ v f ∷ v ss ∷ v es ∷ v ts ∷ wc ∷ wp ∷ []) Post)
+  module _ (C : Calls 𝓤 H) (Λ : Loops 𝓤 H) (fm : FmC 𝓤 H (W .laws) C) (known-place : Triple 𝓤 (C #expressions·text-reader·at-place) (Place 𝓤 H A mem run))
+      (known-here : Triple 𝓤 (C #expressions·text-reader·expression-here) (Here 𝓤 H A mem run)) where
+    walk : Ok → Is (ShrSlice (named 0) κ u8) t (v t ∷ []) → n < 2 ^ 64 → Is (ShrSlice (named 0) κ u8) f (v f ∷ [])
+        → Is (ShrSlice (named 0) κ u16) ss (v ss ∷ []) → Is (ShrSlice (named 0) κ u16) es (v es ∷ []) → Is (ShrSlice (named 0) κ u8) ts (v ts ∷ [])
+        → Holds (hasTy N′.mir wc) × WT wc → Holds (hasTy P′.mir wp) × WT wp → ent 𝓤 (onEntry 𝓤 H A from-start.signature (κ, tt) (q, tt) a vals)
+        (WpFn 𝓤 H C Λ code.function (v t ∷ vint w64 n ∷ v f ∷ v ss ∷ v es ∷ v ts ∷ wc ∷ wp ∷ []) Post)
     walk ok pt₀ fits pf ps pe pt tc tp =
-        qed W (raw (onEntry 𝓤 H A from-start.signature (κ, tt) (q, tt) a vals) ∷ []) ∵ enter ! C Λ code.function (v t ∷ vint w64 n ∷ v f ∷ v ss ∷ v es ∷ v ts ∷ wc ∷ wp ∷ []) _ $
-        alloc1 ! (λ l₀. alloc1 ! (λ l₁. alloc1 ! (λ l₂. alloc1 ! (λ l₃. alloc1 ! (λ l₄. alloc1 ! (λ l₅. alloc1 ! (λ l₆. alloc1 ! (λ l₇. alloc1 ! (λ l₈. alloc1 ! (λ l₉. alloc0 ! $ params1 ! $
+        qed W (raw (onEntry 𝓤 H A from-start.signature (κ, tt) (q, tt) a vals) ∷ []) ∵ enter
+        ! C Λ code.function (v t ∷ vint w64 n ∷ v f ∷ v ss ∷ v es ∷ v ts ∷ wc ∷ wp ∷ []) _ $
+        alloc1 ! (λ l₀. alloc1 ! (λ l₁. alloc1 ! (λ l₂. alloc1
+        ! (λ l₃. alloc1 ! (λ l₄. alloc1 ! (λ l₅. alloc1 ! (λ l₆. alloc1 ! (λ l₇. alloc1 ! (λ l₈. alloc1 ! (λ l₉. alloc0 ! $ params1 ! $
         pass1 ! (init ! 16 refl (shr-slice-lawful 𝓤 H A W (named 0) κ u8 .typed t (v t ∷ []) pt₀ .0)) $ pass1 ! (init ! 14 refl (tt, record { fits = fits })) $
-        pass1 ! (init ! 12 refl (shr-slice-lawful 𝓤 H A W (named 0) κ u8 .typed f (v f ∷ []) pf .0)) $ pass1 ! (init ! 10 refl (shr-slice-lawful 𝓤 H A W (named 0) κ u16 .typed ss (v ss ∷ []) ps .0)) $
-        pass1 ! (init ! 8 refl (shr-slice-lawful 𝓤 H A W (named 0) κ u16 .typed es (v es ∷ []) pe .0)) $ pass1 ! (init ! 6 refl (shr-slice-lawful 𝓤 H A W (named 0) κ u8 .typed ts (v ts ∷ []) pt .0)) $
+        pass1 ! (init ! 12 refl (shr-slice-lawful 𝓤 H A W (named 0) κ u8 .typed f (v f ∷ []) pf .0)) $ pass1
+        ! (init ! 10 refl (shr-slice-lawful 𝓤 H A W (named 0) κ u16 .typed ss (v ss ∷ []) ps .0)) $
+        pass1 ! (init ! 8 refl (shr-slice-lawful 𝓤 H A W (named 0) κ u16 .typed es (v es ∷ []) pe .0)) $ pass1
+        ! (init ! 6 refl (shr-slice-lawful 𝓤 H A W (named 0) κ u8 .typed ts (v ts ∷ []) pt .0)) $
         pass1 ! (init ! 4 refl tc) $ pass1 ! (init ! 2 refl tp) $ pass0 ! $
         -- [room for _9; …; _8; …; _1; …; room for _0; …; the token and what the parameters own]
         move ! (20 ∷ []) $ use1 W (raw (Place 𝓤 H A mem run .pre to-place) ⊛ ‵ Own) goes-place $ split ! $
-        calls-at ! fm (Place 𝓤 H A mem run) known-place to-place (and-then ! (load ! (from ! (stop !)) (look ! 18 refl)) (and-then ! (lit ! tt) (no-more !))) (λ u.
-        use1 W (later (some (λ (r : Reader). ((‵ (flft κ q) ⊛ ‵ ftrue) ⊛ ‵ (B (κ, tt) .own r (u ∷ []))) ⊛ raw (ensured 𝓤 H A place.ended (place.clauses 𝓤 H A mem run) (κ, tt) (t, (0, tt)) tt r)))) (id⊢ 𝓤 _) $ await ! tt $ pick ! (λ r.
+        calls-at ! fm (Place 𝓤 H A mem run) known-place to-place
+        (and-then ! (load ! (from ! (stop !)) (look ! 18 refl)) (and-then ! (lit ! tt) (no-more !))) (λ u.
+        use1 W (later (some (λ (r : Reader). ((‵ (flft κ q) ⊛ ‵ ftrue) ⊛ ‵ (B (κ, tt) .own r (u ∷ [])))
+        ⊛ raw (ensured 𝓤 H A place.ended (place.clauses 𝓤 H A mem run) (κ, tt) (t, (0, tt)) tt r)))) (id⊢ 𝓤 _) $ await ! tt $ pick ! (λ r.
         split ! $ move ! (1 ∷ []) $ use1 W (raw (fact 𝓤 ((r .text ≡ t) × (r .at ≡ 0)))) (place-said r) $ heard ! ((r .text ≡ t) × (r .at ≡ 0)) (λ e.
         split ! $ rewrite ! 1 (λ (x : Reader). ‵ (B (κ, tt) .own x (u ∷ []))) (λ i. record { text = e .0 i; at = e .1 i }) refl $ move ! (1 ∷ []) $
         -- [what the reader owns; the token; what the others own; room for _9; …; _8; …; _1; …; room for _0; …]
@@ -184,36 +211,79 @@ module _ {M : Type 1} (𝓤 : URA M) (H : Heap 𝓤) (A : Atoms 𝓤) (W : Given
         land ! (from ! (stop !)) (init ! 3 refl (LL.lawful (T.the-type αᵉ) (T′.the-laws αᵉ) 𝓤 H A W .typed d _ is .0)) $
         use3 W (raw (Here 𝓤 H A mem run .pre (to-here u))) (goes-here ok u) $
         calls-at ! fm (Here 𝓤 H A mem run) known-here (to-here u)
-        (and-then ! (load ! (from ! (stop !)) (look ! 1 refl)) (and-then ! (load ! (from ! (stop !)) (look ! 15 refl)) (and-then ! (load ! (from ! (stop !)) (look ! 13 refl)) (and-then ! (load ! (from ! (stop !)) (look ! 11 refl))
-        (and-then ! (load ! (from ! (stop !)) (look ! 9 refl)) (and-then ! (load ! (from ! (stop !)) (look ! 7 refl)) (and-then ! (load ! (from ! (stop !)) (look ! 5 refl)) (and-then ! (load ! (from ! (stop !)) (look ! 3 refl)) (no-more !))))))))) (λ u′.
-        use1 W (later (some (λ (m : Made). ((‵ (flft κ q) ⊛ ‵ ftrue) ⊛ ‵ (R.the-row .own m (u′ ∷ []))) ⊛ raw (ensured 𝓤 H A here.ended (here.clauses 𝓤 H A mem run) (κ, tt) b tt m)))) (id⊢ 𝓤 _) $ await ! tt $ pick ! (λ m.
+        (and-then ! (load ! (from ! (stop !)) (look ! 1 refl))
+        (and-then ! (load ! (from ! (stop !)) (look ! 15 refl))
+        (and-then ! (load ! (from ! (stop !)) (look ! 13 refl)) (and-then ! (load ! (from ! (stop !)) (look ! 11 refl))
+        (and-then ! (load ! (from ! (stop !)) (look ! 9 refl))
+        (and-then ! (load ! (from ! (stop !)) (look ! 7 refl))
+        (and-then ! (load ! (from ! (stop !)) (look ! 5 refl)) (and-then ! (load ! (from ! (stop !)) (look ! 3 refl)) (no-more !))))))))) (λ u′.
+        use1 W (later (some (λ (m : Made). ((‵ (flft κ q) ⊛ ‵ ftrue) ⊛ ‵ (R.the-row .own m (u′ ∷ [])))
+        ⊛ raw (ensured 𝓤 H A here.ended (here.clauses 𝓤 H A mem run) (κ, tt) b tt m)))) (id⊢ 𝓤 _) $ await ! tt $ pick ! (λ m.
         split ! $ move ! (1 ∷ []) $ use1 W (raw (fact 𝓤 (Found m))) (here-said m) $ heard ! (Found m) (λ e′. split ! $ move ! (1 ∷ []) $
         -- [the result; the token; _9; …; _8; …; _1; …; room for _0; …]
         peeks ! R.the-row (Is R.the-row) (shows 𝓤 H A R.the-row) m (u′ ∷ []) (λ is′.
         land ! (from ! (stop !)) (init ! 20 refl (LL.lawful R.the-type R′.the-laws 𝓤 H A W .typed m _ is′ .0)) $
-        returns ! (look ! 20 refl) $ forget ! 2 refl $ forget ! 4 refl $ forget ! 6 refl $ forget ! 8 refl $ forget ! 10 refl $ forget ! 12 refl $ forget ! 14 refl $ forget ! 16 refl $ forget ! 18 refl $ forget ! 20 refl $
-        move ! (20 ∷ 21 ∷ []) $ free1 ! $ move ! (18 ∷ 19 ∷ []) $ free1 ! $ move ! (16 ∷ 17 ∷ []) $ free1 ! $ move ! (14 ∷ 15 ∷ []) $ free1 ! $ move ! (12 ∷ 13 ∷ []) $ free1 ! $
-        move ! (10 ∷ 11 ∷ []) $ free1 ! $ move ! (8 ∷ 9 ∷ []) $ free1 ! $ move ! (6 ∷ 7 ∷ []) $ free1 ! $ move ! (4 ∷ 5 ∷ []) $ free1 ! $ move ! (2 ∷ 3 ∷ []) $ free1 ! $ free0 ! $ by ! (exits m u′ e′)))))))))))))))))))
+        returns ! (look ! 20 refl) $ forget ! 2 refl $ forget ! 4 refl $ forget ! 6 refl $ forget ! 8 refl $ forget ! 10 refl $ forget ! 12 refl $ forget
+        ! 14 refl $ forget ! 16 refl $ forget ! 18 refl $ forget ! 20 refl $
+        move ! (20 ∷ 21 ∷ []) $ free1 ! $ move ! (18 ∷ 19 ∷ []) $ free1 ! $ move ! (16 ∷ 17 ∷ []) $ free1 ! $ move ! (14 ∷ 15 ∷ []) $ free1 ! $ move
+        ! (12 ∷ 13 ∷ []) $ free1 ! $
+        move ! (10 ∷ 11 ∷ []) $ free1 ! $ move ! (8 ∷ 9 ∷ []) $ free1 ! $ move ! (6 ∷ 7 ∷ []) $ free1 ! $ move ! (4 ∷ 5 ∷ []) $ free1 ! $ move
+        ! (2 ∷ 3 ∷ []) $ free1 ! $ free0 ! $ by ! (exits m u′ e′)))))))))))))))))))
 
 module _ {M : Type 1} (𝓤 : URA M) (H : Heap 𝓤) (A : Atoms 𝓤) (W : Given 𝓤 H A) (mem : Memory → SProp 𝓤) (run : Routine → Fun 𝓤) where
-  from-start-walks : (C : Calls 𝓤 H) (Λ : Loops 𝓤 H) → FmC 𝓤 H (W .laws) C → Triple 𝓤 (C #expressions·text-reader·at-place) (Place 𝓤 H A mem run) → Triple 𝓤 (C #expressions·text-reader·expression-here) (Here 𝓤 H A mem run)
+  from-start-walks : (C : Calls 𝓤 H) (Λ : Loops 𝓤 H) → FmC 𝓤 H (W .laws) C → Triple 𝓤 (C #expressions·text-reader·at-place) (Place 𝓤 H A mem run)
+      → Triple 𝓤 (C #expressions·text-reader·expression-here) (Here 𝓤 H A mem run)
       → Walks 𝓤 H A from-start.ended stayed (WpFn 𝓤 H C Λ code.function) (from-start.clauses 𝓤 H A mem run)
   from-start-walks C Λ fm known-place known-here = walked 𝓤 H A from-start.ended stayed (from-start.clauses 𝓤 H A mem run) (WpFn 𝓤 H C Λ code.function)
-      (λ κs. (slice-vals, (uint-vals w64, (slice-vals, (slice-vals, (slice-vals, (slice-vals, (LL.vals N.the-type N′.the-laws, (LL.vals P.the-type P′.the-laws, tt)))))))))
-      (λ κs. (shr-slice-tells (named 0) (κs .0) u8, (uint-tells w64, (shr-slice-tells (named 0) (κs .0) u8, (shr-slice-tells (named 0) (κs .0) u16, (shr-slice-tells (named 0) (κs .0) u16, (shr-slice-tells (named 0) (κs .0) u8, (LL.tells N.the-type N′.the-laws, (LL.tells P.the-type P′.the-laws, tt)))))))))
-      (λ κs qs bounds a g are. needs 𝓤 _ _ (λ ok.
-      walk 𝓤 H A W mem run (κs .0) (qs .0) (a .0) (a .1 .0) (a .1 .1 .0) (a .1 .1 .1 .0) (a .1 .1 .1 .1 .0) (a .1 .1 .1 .1 .1 .0) (a .1 .1 .1 .1 .1 .1 .0) (a .1 .1 .1 .1 .1 .1 .1 .0) (LL.val N.the-type N′.the-laws (a .1 .1 .1 .1 .1 .1 .0)) (LL.val P.the-type P′.the-laws (a .1 .1 .1 .1 .1 .1 .1 .0)) C Λ fm known-place known-here ok
-      (are .0) (are .1 .0 .1) (are .1 .1 .0) (are .1 .1 .1 .0) (are .1 .1 .1 .1 .0) (are .1 .1 .1 .1 .1 .0)
-      (LL.lawful N.the-type N′.the-laws 𝓤 H A W .typed (a .1 .1 .1 .1 .1 .1 .0) _ (are .1 .1 .1 .1 .1 .1 .0) .0) (LL.lawful P.the-type P′.the-laws 𝓤 H A W .typed (a .1 .1 .1 .1 .1 .1 .1 .0) _ (are .1 .1 .1 .1 .1 .1 .1 .0) .0)))
+      (λ κs. (
+        slice-vals,
+        (uint-vals w64, (slice-vals, (slice-vals, (slice-vals, (slice-vals, (LL.vals N.the-type N′.the-laws, (LL.vals P.the-type P′.the-laws, tt))))))),
+      )) (λ κs. let shr-slice-tells' = shr-slice-tells (named 0) (κs .0) in (
+        shr-slice-tells' u8,
+        (
+          uint-tells w64,
+          (
+            shr-slice-tells' u8,
+            (shr-slice-tells' u16, (shr-slice-tells' u16, (shr-slice-tells' u8, (LL.tells N.the-type N′.the-laws, (LL.tells P.the-type P′.the-laws, tt))))),
+          ),
+        ),
+      )) (λ κs qs bounds a g are. needs 𝓤 _ _ (λ ok. walk 𝓤 H A W mem run (κs .0) (qs .0) (a .0) (a .1 .0) (a .1 .1 .0) (a .1 .1 .1 .0) (a .1 .1 .1 .1 .0)
+      (a .1 .1 .1 .1 .1 .0) (a .1 .1 .1 .1 .1 .1 .0) (a .1 .1 .1 .1 .1 .1 .1 .0) (LL.val N.the-type N′.the-laws (a .1 .1 .1 .1 .1 .1 .0))
+      (LL.val P.the-type P′.the-laws (a .1 .1 .1 .1 .1 .1 .1 .0)) C Λ fm known-place known-here ok (are .0) (are .1 .0 .1) (are .1 .1 .0) (are .1 .1 .1 .0)
+      (are .1 .1 .1 .1 .0) (are .1 .1 .1 .1 .1 .0) (LL.lawful N.the-type N′.the-laws 𝓤 H A W .typed (a .1 .1 .1 .1 .1 .1 .0) _ (are .1 .1 .1 .1 .1 .1 .0) .0)
+      (LL.lawful P.the-type P′.the-laws 𝓤 H A W .typed (a .1 .1 .1 .1 .1 .1 .1 .0) _ (are .1 .1 .1 .1 .1 .1 .1 .0) .0)))
 
   -- nothing is said of any parameter at exit
   gone : AllGo 𝓤 H A W 1 (from-start.ended .signature .params) (from-start.ended .kept) stayed
-  gone = (goes-dropped 𝓤 H A W 1 bytes yes (λ κs x f. refl), (goes-dropped 𝓤 H A W 1 (plain (λ _. usize)) yes (λ κs x f. refl), (goes-dropped 𝓤 H A W 1 bytes yes (λ κs x f. refl), (goes-dropped 𝓤 H A W 1 halves yes (λ κs x f. refl), (goes-dropped 𝓤 H A W 1 halves yes (λ κs x f. refl), (goes-dropped 𝓤 H A W 1 bytes yes (λ κs x f. refl), (goes-dropped 𝓤 H A W 1 (plain (λ _. N.the-row)) yes (λ κs x f. refl), (goes-dropped 𝓤 H A W 1 (plain (λ _. P.the-row)) yes (λ κs x f. refl), tt))))))))
+  gone = (
+    goes-dropped 𝓤 H A W 1 bytes yes (λ κs x f. refl),
+    (
+      goes-dropped 𝓤 H A W 1 (plain (λ _. usize)) yes (λ κs x f. refl),
+      (
+        goes-dropped 𝓤 H A W 1 bytes yes (λ κs x f. refl),
+        (
+          goes-dropped 𝓤 H A W 1 halves yes (λ κs x f. refl),
+          (
+            goes-dropped 𝓤 H A W 1 halves yes (λ κs x f. refl),
+            (
+              goes-dropped 𝓤 H A W 1 bytes yes (λ κs x f. refl),
+              (
+                goes-dropped 𝓤 H A W 1 (plain (λ _. N.the-row)) yes (λ κs x f. refl),
+                (goes-dropped 𝓤 H A W 1 (plain (λ _. P.the-row)) yes (λ κs x f. refl), tt),
+              ),
+            ),
+          ),
+        ),
+      ),
+    ),
+  )
 
 from-start-meets : {M : Type 1} (𝓤 : URA M) (H : Heap 𝓤) (A : Atoms 𝓤) (W : Given 𝓤 H A) (mem : Memory → SProp 𝓤) (run : Routine → Fun 𝓤) (𝓣 : Tables 𝓤 H)
     → Triple 𝓤 (𝓣 .C #expressions·text-reader·at-place) (Place 𝓤 H A mem run) → Triple 𝓤 (𝓣 .C #expressions·text-reader·expression-here) (Here 𝓤 H A mem run)
     → Meets 𝓤 H A from-start.signature (WpFn 𝓤 H (𝓣 .C) (𝓣 .Λ) code.function) (from-start.spec 𝓤 H A mem run)
-from-start-meets 𝓤 H A W mem run 𝓣 known-place known-here = walk-meets 𝓤 H A from-start.ended stayed W (gone 𝓤 H A W mem run) (from-start.clauses 𝓤 H A mem run) (WpFn 𝓤 H (𝓣 .C) (𝓣 .Λ) code.function) (WpFn-mono 𝓤 H (W .laws) 𝓣 code.function)
+from-start-meets 𝓤 H A W mem run 𝓣 known-place known-here
+    = walk-meets 𝓤 H A from-start.ended stayed W (gone 𝓤 H A W mem run) (from-start.clauses 𝓤 H A mem run) (WpFn 𝓤 H (𝓣 .C) (𝓣 .Λ) code.function)
+    (WpFn-mono 𝓤 H (W .laws) 𝓣 code.function)
     (from-start-walks 𝓤 H A W mem run (𝓣 .C) (𝓣 .Λ) (fmOf 𝓤 H (W .laws) 𝓣) known-place known-here)
 
 pub from-start-spec : {M : Type 1} → stated.statement M
@@ -222,5 +292,7 @@ from-start-spec 𝓤 H 𝓜 𝓖 𝓡 =
     entered 𝓤 H (tripleOf 𝓤 H (𝓖 .A) from-start.signature (from-start.spec 𝓤 H (𝓖 .A) (𝓜 .mem) (𝓡 .run)))
     (tables 𝓤 H 𝓜 𝓡 code.env .C) (tables 𝓤 H 𝓜 𝓡 code.env .Λ) #expressions·text-reader·from-start code.function (code.unfolded 𝓤 H 𝓜 𝓡)
     (from-start-meets 𝓤 H (𝓖 .A) (givenOf 𝓤 H 𝓜 𝓖) (𝓜 .mem) (𝓡 .run) (tablesOf 𝓤 H 𝓜 (tables 𝓤 H 𝓜 𝓡 code.env))
-    (cited 𝓤 H (Place 𝓤 H (𝓖 .A) (𝓜 .mem) (𝓡 .run)) 𝓜 𝓡 code.env #expressions·text-reader·at-place place-def.routine code.calls-expressions·text-reader·at-place (place-thm.met 𝓤 H 𝓜 𝓖 𝓡))
-    (cited 𝓤 H (Here 𝓤 H (𝓖 .A) (𝓜 .mem) (𝓡 .run)) 𝓜 𝓡 code.env #expressions·text-reader·expression-here here-def.routine code.calls-expressions·text-reader·expression-here (here-thm.met 𝓤 H 𝓜 𝓖 𝓡)))
+    (cited 𝓤 H (Place 𝓤 H (𝓖 .A) (𝓜 .mem) (𝓡 .run)) 𝓜 𝓡 code.env #expressions·text-reader·at-place place-def.routine
+    code.calls-expressions·text-reader·at-place (place-thm.met 𝓤 H 𝓜 𝓖 𝓡))
+    (cited 𝓤 H (Here 𝓤 H (𝓖 .A) (𝓜 .mem) (𝓡 .run)) 𝓜 𝓡 code.env #expressions·text-reader·expression-here here-def.routine
+    code.calls-expressions·text-reader·expression-here (here-thm.met 𝓤 H 𝓜 𝓖 𝓡)))

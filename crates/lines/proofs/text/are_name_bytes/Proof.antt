@@ -26,8 +26,9 @@ is-name-byte-requires c κs = search needs
 
 returns : tie.Need-returns Inv-loop μ-loop
 returns c =
-    let a = c .before .before .before .before .before .before .args in
-    let l = c .before .before .before .before .loop in
+    let c4 = c .before .before .before .before in
+    let a = c4 .before .before .args in
+    let l = c4 .loop in
     sym (l .inv .1 ∙ name-stop (a .f .now) (l .i) (a .to) (omega arith) (omega arith) (sym (c .before .is-name-byte .ensures) ∙ not-true _ (c .if1 .taken)))
 
 add-i : tie.Need-add-i Inv-loop μ-loop
@@ -38,9 +39,12 @@ loop-less c = search needs
 
 loop-again : tie.Need-loop-again Inv-loop μ-loop
 loop-again c =
-    let a = c .before .before .before .before .before .before .args in
-    let l = c .before .before .before .before .loop in
-    (omega arith, l .inv .1 ∙ name-run (a .f .now) (l .i) (a .to) (omega arith) (omega arith) (sym (c .before .is-name-byte .ensures) ∙ not-false _ (c .if1 .left)))
+    let c4 = c .before .before .before .before in
+    let a = c4 .before .before .args in
+    let l = c4 .loop in (
+      omega arith,
+      l .inv .1 ∙ name-run (a .f .now) (l .i) (a .to) (omega arith) (omega arith) (sym (c .before .is-name-byte .ensures) ∙ not-false _ (c .if1 .left)),
+    )
 
 returns-2 : tie.Need-returns-2 Inv-loop μ-loop
 returns-2 c =

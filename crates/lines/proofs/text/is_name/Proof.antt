@@ -56,11 +56,16 @@ no-sort-requires c κs = search needs
 
 returns-5 : tie.Need-returns-5
 returns-5 c =
-    let a = c .before .before .before .before .before .before .before .before .before .before .args in
+    let c3 = c .before .before .before in
+    let c7 = c3 .before .before .before .before in
+    let start = c7 .before .before .before in
+    let a = start .args in
     let w = slice (a .p .from) (a .p .to) (a .f .now) in
-    let g : getD w 0 0 ≡ getD (a .f .now) (a .p .from) 0 = rw (part-getD (a .f .now) (a .p .from) (a .p .to) 0 (omega (arith, c .before .before .before .before .before .before .before .before .if1 .left, c .before .before .before .before .before .before .before .before .before .before .pre)), add-zero (a .p .from)) in
-    let h : length w ≤ 24 = omega (arith, c .before .before .before .before .before .before .before .if2 .left, length-slice (a .p .from) (a .p .to) (a .f .now) (c .before .before .before .before .before .before .before .before .before .before .pre .fits)) in
-    let n = name-is w (ap isLetter g ∙ sym (c .before .before .before .before .before .is-letter .ensures) ∙ not-false _ (c .before .before .before .before .if3 .left)) (sym (c .before .before .before .are-name-bytes .ensures) ∙ not-false _ (c .before .before .if4 .left)) h in
+    let g : getD w 0 0 ≡ getD (a .f .now) (a .p .from) 0 =
+    rw (part-getD (a .f .now) (a .p .from) (a .p .to) 0 (omega (arith, c7 .before .if1 .left, start .pre)), add-zero (a .p .from)) in
+    let h : length w ≤ 24 = omega (arith, c7 .if2 .left, length-slice (a .p .from) (a .p .to) (a .f .now) (start .pre .fits)) in
+    let n = name-is w (ap isLetter g ∙ sym (c3 .before .before .is-letter .ensures) ∙ not-false _ (c3 .before .if3 .left))
+    (sym (c3 .are-name-bytes .ensures) ∙ not-false _ (c .before .before .if4 .left)) h in
     c .no-sort .ensures ∙ rw (c .before .letter .ensures) (sym n)
 
 pub is-name-spec : {M : Type 1} → statement M

@@ -19,11 +19,15 @@ returns-2 c = simp (eq-eqb _ 95 (c .if2 .taken), or-true)
 
 returns-3 : tie.Need-returns-3
 unfolding isNameByte
-returns-3 c = simp (sym (c .before .before .before .is-letter .ensures) ∙ c .before .before .if1 .left, ne-eqb _ 95 (c .before .if2 .left), lt-leb 48 _ (c .if3 .taken))
+returns-3 c =
+    let c3 = c .before .before .before in
+    simp (sym (c3 .is-letter .ensures) ∙ c .before .before .if1 .left, ne-eqb _ 95 (c .before .if2 .left), lt-leb 48 _ (c .if3 .taken))
 
 returns-4 : tie.Need-returns-4
 unfolding isNameByte
-returns-4 c = simp (sym (c .before .before .before .is-letter .ensures) ∙ c .before .before .if1 .left, ne-eqb _ 95 (c .before .if2 .left), le-leb 48 _ (c .if3 .left), or-false)
+returns-4 c =
+    let c3 = c .before .before .before in
+    simp (sym (c3 .is-letter .ensures) ∙ c .before .before .if1 .left, ne-eqb _ 95 (c .before .if2 .left), le-leb 48 _ (c .if3 .left), or-false)
 
 pub is-name-byte-spec : {M : Type 1} → statement M
 is-name-byte-spec = tie.close (tie.spec is-letter-requires returns returns-2 returns-3 returns-4)

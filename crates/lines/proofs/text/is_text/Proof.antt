@@ -22,7 +22,8 @@ sub-if1 c = search needs
 returns : tie.Need-returns Inv-loop μ-loop
 returns c =
     let a = c .before .args in
-    sym (same-lengths (slice (a .p .from) (a .p .to) (a .f .now)) (a .w .now) (rw (length-slice (a .p .from) (a .p .to) (a .f .now) (omega arith)) (c .if1 .taken)))
+    sym (same-lengths (slice (a .p .from) (a .p .to) (a .f .now)) (a .w .now)
+    (rw (length-slice (a .p .from) (a .p .to) (a .f .now) (omega arith)) (c .if1 .taken)))
 
 loop-holds : tie.Need-loop-holds Inv-loop μ-loop
 loop-holds c = (omega arith, omega arith, omega arith, rw (add-zero (c .before .args .p .from)))
@@ -38,8 +39,9 @@ shared-slice-read-if2-2 c = search needs
 
 returns-2 : tie.Need-returns-2 Inv-loop μ-loop
 returns-2 c =
-    let a = c .before .before .before .before .before .before .args in
-    let l = c .before .before .before .before .loop in
+    let c4 = c .before .before .before .before in
+    let a = c4 .before .before .args in
+    let l = c4 .loop in
     sym (l .inv .3 ∙ word-stop (a .f .now) (a .w .now) (a .p .from) (a .p .to) (l .i) (omega arith) (omega arith) (omega arith) (c .if2 .taken))
 
 add-i : tie.Need-add-i Inv-loop μ-loop
@@ -50,9 +52,14 @@ loop-less c = search needs
 
 loop-again : tie.Need-loop-again Inv-loop μ-loop
 loop-again c =
-    let a = c .before .before .before .before .before .before .args in
-    let l = c .before .before .before .before .loop in
-    (omega arith, omega arith, omega arith, l .inv .3 ∙ word-run (a .f .now) (a .w .now) (a .p .from) (a .p .to) (l .i) (omega arith) (omega arith) (omega arith) (c .if2 .left))
+    let c4 = c .before .before .before .before in
+    let a = c4 .before .before .args in
+    let l = c4 .loop in (
+      omega arith,
+      omega arith,
+      omega arith,
+      l .inv .3 ∙ word-run (a .f .now) (a .w .now) (a .p .from) (a .p .to) (l .i) (omega arith) (omega arith) (omega arith) (c .if2 .left),
+    )
 
 returns-3 : tie.Need-returns-3 Inv-loop μ-loop
 returns-3 c =

@@ -1,6 +1,7 @@
 use borrow.Author.Needs.{needs}
 use native.Mathlib.Omega.{arith}
-use Rattle.lines.proofs.Parts.{part-one, part-getD, valued, numeral, number-empty, number-long, number-zero, number-on, number-nought, digit-run, digit-low, digit-high, digit-end, few-digits, digit-more}
+use Rattle.lines.proofs.Parts.{part-one, part-getD, valued, numeral, number-empty, number-long, number-zero, number-on, number-nought, digit-run}
+use Rattle.lines.proofs.Parts.{digit-low, digit-high, digit-end, few-digits, digit-more}
 use native.Mathlib.Nat.{add-zero}
 use lib.ListN.{length, getD}
 use lib.Seq.{slice, length-slice}
@@ -10,7 +11,8 @@ use Rattle.lines.proofs.text.number_at.Statement.{statement}
 use Rattle.lines.proofs.text.number_at.Tie as tie
 
 abbrev Inv-loop : tie.InvT-loop
-Inv-loop f from to n₀ i₀ n i = (from ≤ i) × (i ≤ to) × (to ≤ from + 4) × (to ≤ length f) × (n + 1 ≤ 10 ^ (i - from)) × (numeral (slice from to f) ≡ valued n (slice i to f))
+Inv-loop f from to n₀ i₀ n i =
+    (from ≤ i) × (i ≤ to) × (to ≤ from + 4) × (to ≤ length f) × (n + 1 ≤ 10 ^ (i - from)) × (numeral (slice from to f) ≡ valued n (slice i to f))
 
 abbrev μ-loop : tie.MeasureT-loop
 μ-loop f from to n₀ i₀ n i = to - i
@@ -67,21 +69,25 @@ shared-slice-read-b c = search needs
 returns-5 : tie.Need-returns-5 Inv-loop μ-loop
 unfolding numeral
 returns-5 c =
-    let a = c .before .before .before .before .before .before .before .before .args in
-    let l = c .before .before .before .loop in
+    let c3 = c .before .before .before in
+    let a = c3 .before .before .before .before .before .args in
+    let l = c3 .loop in
     sym (l .inv .5 ∙ digit-low (a .f .now) (l .i) (a .p .to) (l .n) (omega arith) (omega arith) (c .if5 .taken))
 
 returns-6 : tie.Need-returns-6 Inv-loop μ-loop
 unfolding numeral
 returns-6 c =
-    let a = c .before .before .before .before .before .before .before .before .before .args in
-    let l = c .before .before .before .before .loop in
+    let c4 = c .before .before .before .before in
+    let a = c4 .before .before .before .before .before .args in
+    let l = c4 .loop in
     sym (l .inv .5 ∙ digit-high (a .f .now) (l .i) (a .p .to) (l .n) (omega arith) (omega arith) (c .if6 .taken))
 
 mul-n : tie.Need-mul-n Inv-loop μ-loop
 mul-n c =
-    let l = c .before .before .before .before .loop in
-    omega (arith, few-digits (l .n) (l .i - c .before .before .before .before .before .before .before .before .before .args .p .from) (l .inv .4) (omega arith))
+    let c4 = c .before .before .before .before in
+    let start = c4 .before .before .before .before .before in
+    let l = c4 .loop in
+    omega (arith, few-digits (l .n) (l .i - start .args .p .from) (l .inv .4) (omega arith))
 
 cast-n : tie.Need-cast-n Inv-loop μ-loop
 cast-n c =
@@ -89,8 +95,10 @@ cast-n c =
 
 add-n : tie.Need-add-n Inv-loop μ-loop
 add-n c =
-    let l = c .before .before .before .before .loop in
-    omega (arith, few-digits (l .n) (l .i - c .before .before .before .before .before .before .before .before .before .args .p .from) (l .inv .4) (omega arith))
+    let c4 = c .before .before .before .before in
+    let start = c4 .before .before .before .before .before in
+    let l = c4 .loop in
+    omega (arith, few-digits (l .n) (l .i - start .args .p .from) (l .inv .4) (omega arith))
 
 add-i : tie.Need-add-i Inv-loop μ-loop
 add-i c = search needs
@@ -100,8 +108,9 @@ loop-less c = search needs
 
 loop-again : tie.Need-loop-again Inv-loop μ-loop
 loop-again c =
-    let a = c .before .before .before .before .before .before .before .before .before .args in
-    let l = c .before .before .before .before .loop in
+    let c4 = c .before .before .before .before in
+    let a = c4 .before .before .before .before .before .args in
+    let l = c4 .loop in
     let b = getD (a .f .now) (l .i) 0 in (
       omega arith,
       omega arith,

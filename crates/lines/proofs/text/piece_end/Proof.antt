@@ -23,8 +23,9 @@ shared-slice-read-if1 c = search needs
 
 returns : tie.Need-returns Inv-loop μ-loop
 returns c =
-    let a = c .before .before .before .before .args in
-    let l = c .before .before .before .loop in
+    let c3 = c .before .before .before in
+    let a = c3 .before .args in
+    let l = c3 .loop in
     (sym (l .inv .2 ∙ end-hit (a .sep) (a .f .now) (l .i) (a .to) (omega arith) (omega arith) (c .if1 .taken)), omega arith)
 
 add-i : tie.Need-add-i Inv-loop μ-loop
@@ -35,8 +36,9 @@ loop-less c = search needs
 
 loop-again : tie.Need-loop-again Inv-loop μ-loop
 loop-again c =
-    let a = c .before .before .before .before .args in
-    let l = c .before .before .before .loop in
+    let c3 = c .before .before .before in
+    let a = c3 .before .args in
+    let l = c3 .loop in
     (omega arith, omega arith, l .inv .2 ∙ end-miss (a .sep) (a .f .now) (l .i) (a .to) (omega arith) (omega arith) (c .if1 .left))
 
 returns-2 : tie.Need-returns-2 Inv-loop μ-loop

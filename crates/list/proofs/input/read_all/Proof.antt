@@ -68,4 +68,5 @@ returns-3 : tie.Need-returns-3 Inv-loop μ-loop
 returns-3 c = (omega arith, simp length-take (omega arith))
 
 pub read-all-spec : {M : Type 1} → statement M
-read-all-spec = tie.close (tie.spec Inv-loop μ-loop loop-holds sub-read part-read-start part-read-end read-requires same-length returns sub-count part-count-start part-count-end count-requires add-done loop-less loop-again same-length-2 returns-2 same-length-3 returns-3)
+read-all-spec = tie.close (tie.spec Inv-loop μ-loop loop-holds sub-read part-read-start part-read-end read-requires same-length returns sub-count
+    part-count-start part-count-end count-requires add-done loop-less loop-again same-length-2 returns-2 same-length-3 returns-3)

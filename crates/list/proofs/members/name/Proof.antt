@@ -49,4 +49,5 @@ returns-3 : tie.Need-returns-3 Inv-loop μ-loop
 returns-3 c = search needs
 
 pub name-spec : {M : Type 1} → statement M
-name-spec = tie.close (tie.spec Inv-loop μ-loop byte-requires returns add-i loop-holds shared-slice-read-if2 shared-slice-read-byte byte-requires-2 add-i-2 loop-less loop-again returns-2 returns-3)
+name-spec = tie.close (tie.spec Inv-loop μ-loop byte-requires returns add-i loop-holds shared-slice-read-if2 shared-slice-read-byte byte-requires-2 add-i-2
+    loop-less loop-again returns-2 returns-3)

@@ -32,25 +32,48 @@ shared-slice-read-numbers : tie.Need-shared-slice-read-numbers Inv-loop μ-loop
 shared-slice-read-numbers c = omega (arith, c .before .loop-test .taken)
 
 mul-numbers-2 : tie.Need-mul-numbers-2 Inv-loop μ-loop
-mul-numbers-2 c = let h = c .before .before .loop .inv .0 in let k = c .before .before .before .before .pre in omega arith
+mul-numbers-2 c =
+    let h = c .before .before .loop .inv .0 in
+    let k = c .before .before .before .before .pre in
+    omega arith
 
 slice-write-numbers : tie.Need-slice-write-numbers Inv-loop μ-loop
-slice-write-numbers c = let h = c .before .before .loop .inv .1 in let k = c .before .before .before .if1 .left in let t = c .before .loop-test .taken in omega arith
+slice-write-numbers c =
+    let h = c .before .before .loop .inv .1 in
+    let k = c .before .before .before .if1 .left in
+    let t = c .before .loop-test .taken in
+    omega arith
 
 add-x : tie.Need-add-x Inv-loop μ-loop
-add-x c = let h = c .before .before .loop .inv .0 in let k = c .before .before .before .before .pre in omega arith
+add-x c =
+    let h = c .before .before .loop .inv .0 in
+    let k = c .before .before .before .before .pre in
+    omega arith
 
 loop-less : tie.Need-loop-less Inv-loop μ-loop
 loop-less c = let t = c .before .loop-test .taken in omega arith
 
 loop-again : tie.Need-loop-again Inv-loop μ-loop
-loop-again c = let a = c .before .before .before .before .args in let l = c .before .before .loop in (let t = c .before .loop-test .taken in omega arith, length-set (l .numbers) _ _ ∙ l .inv .1, ap (λ i. set (l .numbers) i (getD (a .ns .now) (l .x) 0)) (sym (zero-add (l .x))) ∙ put-more 0 (l .x) (λ i. getD (a .ns .now) i 0) (a .numbers .now) (l .numbers) _ (let t = c .before .loop-test .taken in let k = c .before .before .before .if1 .left in omega arith) (l .inv .2) refl)
+loop-again c =
+    let c3 = c .before .before .before in
+    let a = c3 .before .args in
+    let l = c .before .before .loop in (
+      let t = c .before .loop-test .taken in omega arith,
+      length-set (l .numbers) _ _ ∙ l .inv .1,
+      ap (λ i. set (l .numbers) i (getD (a .ns .now) (l .x) 0)) (sym (zero-add (l .x))) ∙ put-more 0 (l .x) (λ i. getD (a .ns .now) i 0) (a .numbers .now)
+          (l .numbers) _ (let t = c .before .loop-test .taken in let k = c3 .if1 .left in omega arith) (l .inv .2) refl,
+    )
 
 same-length : tie.Need-same-length Inv-loop μ-loop
 same-length c = c .before .loop .inv .1
 
 returns-2 : tie.Need-returns-2 Inv-loop μ-loop
-returns-2 c = let a = c .before .before .before .args in put-done 0 (c .before .loop .x) (length (a .ns .now)) (λ i. getD (a .ns .now) i 0) (a .numbers .now) (c .before .loop .numbers) (c .before .loop .inv .0) (c .loop-test .left) (c .before .loop .inv .2) ∙ ap (λ bs. put 0 bs (a .numbers .now)) (sym (take-tab (length (a .ns .now)) (a .ns .now) (omega arith)) ∙ take-length (a .ns .now)) ∙ written-put _ (a .numbers .now) ∙ hands _ _ (omega (arith, c .before .before .if1 .left))
+returns-2 c =
+    let loop = c .before .loop in
+    let a = c .before .before .before .args in
+    put-done 0 (loop .x) (length (a .ns .now)) (λ i. getD (a .ns .now) i 0) (a .numbers .now) (loop .numbers) (loop .inv .0) (c .loop-test .left) (loop .inv .2)
+    ∙ ap (λ bs. put 0 bs (a .numbers .now)) (sym (take-tab (length (a .ns .now)) (a .ns .now) (omega arith)) ∙ take-length (a .ns .now))
+    ∙ written-put _ (a .numbers .now) ∙ hands _ _ (omega (arith, c .before .before .if1 .left))
 
 pub hand-spec : {M : Type 1} → statement M
 hand-spec =

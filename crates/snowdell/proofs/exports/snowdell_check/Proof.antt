@@ -33,7 +33,11 @@ same-length : tie.Need-same-length
 same-length c = search needs
 
 returns : tie.Need-returns
-returns c = check-hands _ _ _ _ _ _ _ _ (c .before .before .before .before .before .before .before .before .wide .ensures) (c .before .before .before .before .before .before .before .wide2 .ensures) (c .before .before .before .before .before .before .wide3 .ensures) (c .before .before .before .before .before .wide4 .ensures) (c .before .before .before .before .before .before .before .before .before .check .ensures) (c .before .before .hand .ensures)
+returns c =
+    let c5 = c .before .before .before .before .before in
+    let c8 = c5 .before .before .before in
+    check-hands _ _ _ _ _ _ _ _ (c8 .wide .ensures) (c5 .before .before .wide2 .ensures) (c5 .before .wide3 .ensures) (c5 .wide4 .ensures)
+    (c8 .before .check .ensures) (c .before .before .hand .ensures)
 
 pub snowdell-check-spec : {M : Type 1} → statement M
 snowdell-check-spec =

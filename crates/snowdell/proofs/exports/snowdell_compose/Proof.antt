@@ -34,7 +34,14 @@ same-length-3 : tie.Need-same-length-3
 same-length-3 c = search needs
 
 returns-2 : tie.Need-returns-2
-returns-2 c = let h = compose-hands _ _ _ _ _ _ _ (c .before .before .before .before .before .before .before .before .before .before .before .before .before .before .before .before .before .before .args .result .now) (c .before .before .before .before .before .before .before .before .before .before .before .before .before .before .before .before .before .before .args .w .now) (c .before .before .before .before .before .before .before .before .before .before .before .before .before .if1 .left) (c .before .before .before .before .before .wide .ensures) (c .before .before .before .before .before .before .before .before .before .before .compose .ensures .0) (c .before .before .hand .ensures) in (h .0, (h .1, h .2))
+returns-2 c =
+    let c5 = c .before .before .before .before .before in
+    let c10 = c5 .before .before .before .before .before in
+    let c13 = c10 .before .before .before in
+    let start = c13 .before .before .before .before .before in
+    let h = compose-hands _ _ _ _ _ _ _ (start .args .result .now) (start .args .w .now) (c13 .if1 .left) (c5 .wide .ensures) (c10 .compose .ensures .0)
+    (c .before .before .hand .ensures) in
+    (h .0, (h .1, h .2))
 
 pub snowdell-compose-spec : {M : Type 1} → statement M
 snowdell-compose-spec =

@@ -34,7 +34,12 @@ same-length-2 : tie.Need-same-length-2
 same-length-2 c = search needs
 
 returns-2 : tie.Need-returns-2
-returns-2 c = decide-hands _ _ _ _ _ _ _ (c .before .before .before .before .before .before .before .before .before .before .before .before .before .before .before .before .before .before .args .w .now) (c .before .before .before .before .before .before .before .before .before .before .before .if1 .left) (c .before .before .before .before .before .before .wide .ensures) (c .before .before .before .before .before .wide2 .ensures) (c .before .before .before .before .before .before .before .before .before .decide .ensures .0) (c .before .before .hand .ensures)
+returns-2 c =
+    let c5 = c .before .before .before .before .before in
+    let c9 = c5 .before .before .before .before in
+    let start = c9 .before .before .before .before .before .before .before .before .before in
+    decide-hands _ _ _ _ _ _ _ (start .args .w .now) (c9 .before .before .if1 .left) (c5 .before .wide .ensures) (c5 .wide2 .ensures) (c9 .decide .ensures .0)
+    (c .before .before .hand .ensures)
 
 pub snowdell-decide-spec : {M : Type 1} → statement M
 snowdell-decide-spec =
