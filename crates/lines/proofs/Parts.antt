@@ -10,7 +10,7 @@ use mathlib.Core.Option.{Option, none, some}
 use mathlib.Core.Bool.{true, false, cond, _&&_, and-false, and-true, or-true}
 use lib.ListN.{length, getD, take, drop}
 use lib.Seq.{slice, slice-cons, slice-empty, length-slice, getD-drop, getD-take, drop-cons, drop-length, drop-drop, take-nil, take-take, take-all}
-use lib.Dec.{eqb, leb}
+use lib.Dec.{leb}
 use borrow.Author.Tests.{eq-eqb, ne-eqb, le-leb, lt-leb, leb-true}
 use Rattle.algebra.proofs.Bool.{and-left, and-right}
 use Rattle.grammar.specs.Name.{isLetter, isNameByte, areNameBytes, isName, noSort, sortByte, sortWord}
@@ -122,13 +122,6 @@ same-step b c bs cs e = rw (eq-eqb b c e)
 pub same-not : (b c : ℕ) (bs cs : List ℕ) → (b ≡ c → ⊥) → same (b ∷ bs) (c ∷ cs) ≡ false
 unfolding same
 same-not b c bs cs e = rw (ne-eqb b c e)
-
-pub same-lengths : (l m : List ℕ) → (length l ≡ length m → ⊥) → same l m ≡ false
-unfolding same
-same-lengths [] [] h = absurd (h refl)
-same-lengths [] (c ∷ cs) h = refl
-same-lengths (b ∷ bs) [] h = refl
-same-lengths (b ∷ bs) (c ∷ cs) h = rw (same-lengths bs cs (λ e. h (ap suc e))) (and-false (eqb b c))
 
 module _ (f w : List ℕ) (from to i : ℕ) (h : to ≤ length f) (e : to - from ≡ length w) (k : i < length w) where
   both : same (slice (from + i) to f) (drop i w) ≡ same (getD f (from + i) 0 ∷ slice (from + (i + 1)) to f) (getD w i 0 ∷ drop (i + 1) w)

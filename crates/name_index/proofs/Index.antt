@@ -12,8 +12,8 @@ use Rattle.algebra.specs.Bytes.{tally}
 use Rattle.grammar.specs.Lookup.{same, position}
 use Rattle.grammar.proofs.Lookup.{same-refl, position-fails}
 use Rattle.name_index.specs.Hash.{slotOf}
-use Rattle.name_index.specs.Index.{after, freeFrom, freeSlot, put, indexFrom, index, lookUp, Distinct, Taken, Reached, Indexes}
-use Rattle.name_index.proofs.Runs.{tally-set, more-taken, run-short}
+use Rattle.name_index.specs.Index.{after, freeFrom, freeSlot, put, indexFrom, index, lookUp, Distinct}
+use Rattle.name_index.proofs.Runs.{Taken, Reached, Indexes, tally-set, more-taken, run-short}
 use Rattle.name_index.proofs.Hash.{slot-lt}
 use Rattle.name_index.proofs.Search.{search-finds, search-reads}
 

@@ -11,10 +11,11 @@ use lib.Seq.{getD-take, getD-drop, getD-set-other, take-set-lt, take-set-le, dro
 use Rattle.algebra.proofs.Lists.{getD-tabFrom}
 use Rattle.grammar.specs.Lookup.{same}
 use Rattle.name_index.specs.Hash.{slotOf}
-use Rattle.name_index.specs.Index.{after, Searched, searchFrom, search, freeFrom, freeSlot, put, indexFrom, index, lookUp, Indexes}
+use Rattle.name_index.specs.Index.{after, Searched, searchFrom, search, freeFrom, freeSlot, put, indexFrom, index, lookUp}
 use Rattle.name_index.specs.Parts.{nameAt, namesAt, Parts, slotsAt, Slots, Indexed, putAt, lookedOf, LooksUp}
 use Rattle.name_index.specs.declared.Lookup.{Lookup}
 use Rattle.name_index.proofs.Hash.{slot-lt}
+use Rattle.name_index.proofs.Runs.{Indexes}
 use Rattle.name_index.proofs.Search.{search-free, search-hit, search-other}
 use Rattle.name_index.proofs.Index.{free-here, free-further, Fresh, last-length, more-distinct, index-more, indexes, lookup-finds, lookup-reads}
 

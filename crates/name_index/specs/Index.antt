@@ -4,9 +4,8 @@ use mathlib.Core.Path.{_≡_}
 use mathlib.Core.Bool.{true, false}
 use mathlib.Core.List.{List, [], _∷_}
 use mathlib.Core.Option.{Option, none, some}
-use Prim.Native.Nat.{ℕ, zero, suc, _+_, _%_, _≤_, _<_}
+use Prim.Native.Nat.{ℕ, zero, suc, _+_, _%_, _<_}
 use lib.ListN.{length, getD, set, replicate}
-use Rattle.algebra.specs.Bytes.{tally}
 use Rattle.grammar.specs.Lookup.{same}
 use Rattle.name_index.specs.Hash.{slotOf}
 
@@ -57,26 +56,6 @@ index names = indexFrom (replicate 256 0) 0 names
 unfoldable pub lookUp : List (List ℕ) → List ℕ → Searched
 lookUp names n = search (index names) names n
 
--- ---- what an index is
-
+-- no name stands twice
 abbrev pub Distinct : List (List ℕ) → Type 0
 Distinct names = (i j : ℕ) → i < length names → j < length names → getD names i [] ≡ getD names j [] → i ≡ j
-
--- the k slots from slot i on are taken
-abbrev pub Taken : List ℕ → ℕ → ℕ → Type 0
-Taken slots i k = (j : ℕ) → j < k → 0 < getD slots (after i j) 0
-
--- member m is found from slot i by a run of taken slots
-pub record Reached (slots : List ℕ) (i m : ℕ) : Type 0 where
-  pub far : ℕ
-  pub run : Taken slots i far
-  pub here : getD slots (after i far) 0 ≡ suc m
-
-pub record Indexes (slots : List ℕ) (names : List (List ℕ)) : Type 0 where
-  pub size : length slots ≡ 256
-  pub few : length names ≤ 64
-  pub distinct : Distinct names
-  -- no slot has a stranger, and there are no more taken slots than members
-  pub known : (i : ℕ) → getD slots i 0 ≤ length names
-  pub free : tally 0 slots + length names ≡ 256
-  pub reached : (m : ℕ) → m < length names → Reached slots (slotOf (getD names m [])) m

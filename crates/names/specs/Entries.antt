@@ -5,14 +5,13 @@ use mathlib.Core.Option.{Option}
 use Prim.Native.Nat.{ℕ, _+_, _≤_, _<_}
 use lib.Dec.{eqb, leb}
 use lib.ListN.{length, getD}
-use lib.Seq.{slice}
 use Rattle.algebra.specs.Lists.{tabFrom}
 use Rattle.algebra.specs.Sort.{Sort, subject, object, action}
 use Rattle.algebra.specs.Stored.{storedSort}
 use Rattle.grammar.specs.Lookup.{same, positionFrom, position}
 use Rattle.grammar.specs.Names.{Kind, table, rule-set, member, predicate}
 pub use Rattle.name_index.specs.Parts.{foundOf}
-use Rattle.name_index.specs.Parts.{namesAt, Indexed}
+use Rattle.name_index.specs.Parts.{nameAt, namesAt, Indexed}
 use Rattle.names.specs.declared.NameKind.{NameKind}
 use Rattle.names.specs.declared.NameKind.the-variants.{Table, RuleSet, Member, Predicate}
 use Rattle.names.specs.declared.NameCounts.{NameCounts}
@@ -24,7 +23,7 @@ pub record Entry : Type 0 where
   pub name : List ℕ
 
 abbrev pub entryAt : List ℕ → List ℕ → List ℕ → List ℕ → ℕ → Entry
-entryAt f starts ends tags i = record { tag = getD tags i 0; name = slice (getD starts i 0) (getD ends i 0) f }
+entryAt f starts ends tags i = record { tag = getD tags i 0; name = nameAt f starts ends i }
 
 -- a group of entries: so many from the base on
 abbrev pub entries : List ℕ → List ℕ → List ℕ → List ℕ → ℕ → ℕ → List Entry

@@ -2,7 +2,8 @@ use borrow.Author.Needs.{needs}
 use native.Mathlib.Omega.{arith}
 use native.Mathlib.Nat.{add-zero}
 use Rattle.grammar.specs.Lookup.{same}
-use Rattle.lines.proofs.Parts.{same-lengths, word-run, word-stop, word-end}
+use Rattle.grammar.proofs.Lookup.{same-short}
+use Rattle.lines.proofs.Parts.{word-run, word-stop, word-end}
 use lib.ListN.{length, drop}
 use lib.Seq.{slice, length-slice}
 use mathlib.Core.Path.{_≡_, sym, _∙_}
@@ -22,7 +23,7 @@ sub-if1 c = search needs
 returns : tie.Need-returns Inv-loop μ-loop
 returns c =
     let a = c .before .args in
-    sym (same-lengths (slice (a .p .from) (a .p .to) (a .f .now)) (a .w .now)
+    sym (same-short (slice (a .p .from) (a .p .to) (a .f .now)) (a .w .now)
     (rw (length-slice (a .p .from) (a .p .to) (a .f .now) (omega arith)) (c .if1 .taken)))
 
 loop-holds : tie.Need-loop-holds Inv-loop μ-loop
