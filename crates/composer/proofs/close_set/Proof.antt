@@ -2,7 +2,7 @@
 use mathlib.Core.Path.{_≡_, sym, _∙_}
 use Prim.Native.Nat.{_+_, _*_, _-_}
 use native.Mathlib.Omega.{arith}
-use Rattle.plans.proofs.Plans.{accesses-total}
+use Rattle.plans.proofs.Sets.{accesses-total}
 use Rattle.composer.proofs.Turn.{closed-at}
 use borrow.Author.Needs.{needs}
 use Rattle.composer.proofs.close_set.Statement.{statement}

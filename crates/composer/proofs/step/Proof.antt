@@ -3,7 +3,7 @@ use mathlib.Core.Path.{_≡_, sym, subst, _∙_}
 use Prim.Native.Nat.{_+_, _-_, _≤_}
 use native.Mathlib.Omega.{arith}
 use Rattle.scopes.specs.Scopes.{storedScope}
-use Rattle.plans.proofs.Plans.{accesses-total}
+use Rattle.plans.proofs.Sets.{accesses-total}
 use Rattle.composer.specs.Turn.{ClosedAt}
 use Rattle.composer.proofs.Cells.{after-table, after-two, after-override, after-one, scope-coded, cell-scope, scope-names}
 use Rattle.composer.proofs.Turn.{on-answers, all-answers, stepped-table, stepped-two, stepped-override, stepped-scope, stepped-closure}
