@@ -5,7 +5,7 @@ use evaluator::expression::{operators, sets_held, Join, Step};
 use evaluator::generate::random::Random;
 use evaluator::generate::{self, Kind};
 use evaluator::index::{slot, Index, SLOTS};
-use evaluator::policy::{Atom, Policy};
+use evaluator::policy::{Atom, Policy, Rule, Term};
 use evaluator::reader::read;
 use evaluator::{check, compose, decide, list};
 
@@ -132,6 +132,99 @@ fn sound_files_are_accepted_and_use_every_construct() {
     assert!(rounds > 20, "{rounds}");
 }
 
+fn closures(policy: &Policy) -> usize {
+    let closure = |step: &&Step| matches!(step, Step::Closure(_));
+    policy.expression.iter().filter(closure).count()
+}
+
+/// What kind of rule it is, in words.
+fn shapes(rule: &Rule) -> Vec<String> {
+    let variables = rule.variables.iter().flatten().count();
+    let in_head = |term: &&Term| matches!(term, Term::Variable(_));
+    let in_head = rule.head.iter().filter(in_head).count();
+    let grants = |atom: &&Atom| matches!(atom, Atom::Grant(_));
+    let grants = rule.body.iter().filter(grants).count();
+    let mut shapes = vec![
+        format!("{variables} variables"),
+        format!("{in_head} in the head"),
+        format!("{grants} grants"),
+    ];
+    for atom in &rule.body {
+        match atom {
+            Atom::Grant(_) => {}
+            Atom::Order(_, order, ..) => shapes.push(format!("{order:?}")),
+            Atom::Has(..) => shapes.push("has".to_string()),
+        }
+    }
+    shapes
+}
+
+/// Every shape of rule occurs at least so often.
+fn assert_every_shape(found: &[String], least: usize) {
+    let wanted = "4 variables/0 in the head/1 in the head/2 in the head/3 in the head/\
+        0 grants/1 grants/2 grants/3 grants/4 grants/Le/Ge/Lt/Gt/Eq/has";
+    for shape in wanted.split('/') {
+        let times = found.iter().filter(|known| *known == shape).count();
+        assert!(times >= least, "{shape}: {times}");
+    }
+}
+
+#[test]
+fn ruled_files_have_many_rules_and_closures() {
+    let (mut found, mut rounds, mut cut) = (Vec::new(), 0, 0);
+    for file in files(11, 300, Kind::Ruled) {
+        let policy = read(&file).unwrap_or_else(|refusal| panic!("{refusal}"));
+        assert!(policy.counts().iter().all(|count| (2..=6).contains(count)));
+        assert!(policy.rules.len() >= 3 && closures(&policy) >= 2);
+        found.extend(policy.rules.iter().flat_map(shapes));
+        let composed = compose(&file).expect("accepted");
+        rounds += usize::from(composed.rounds > 3);
+        let here = policy.tables.iter().all(|table| table.here);
+        cut += usize::from(here && composed.undecided > 0);
+    }
+    assert_every_shape(&found, 50);
+    assert!(rounds > 100 && cut > 10, "{rounds} {cut}");
+}
+
+#[test]
+fn worst_files_are_accepted_and_of_every_shape() {
+    let read = |file: Vec<u8>| read(&file).unwrap_or_else(|refusal| panic!("{refusal}"));
+    let policies: Vec<_> = files(12, 300, Kind::Worst).map(read).collect();
+    assert!(policies.iter().all(|policy| policy.rules.len() == 64));
+    let rules = policies.iter().flat_map(|policy| &policy.rules);
+    assert_every_shape(&rules.flat_map(shapes).collect::<Vec<_>>(), 100);
+    let some = |met: &dyn Fn(&Policy) -> bool| policies.iter().filter(|p| met(p)).count() > 5;
+    let counts = [
+        [64, 64, 1],
+        [64, 32, 2],
+        [16, 16, 16],
+        [64, 8, 8],
+        [64, 4, 16],
+    ];
+    for counts in counts {
+        assert!(some(&|policy| policy.counts() == counts), "{counts:?}");
+    }
+    for number in [1, 43, 64] {
+        assert!(some(&|policy| closures(policy) == number), "{number}");
+    }
+    assert!(some(&|policy| policy.rule_sets.len() == 1));
+    assert!(some(&|policy| policy.rule_sets.len() == 16));
+    assert!(some(&|policy| policy.limit == 4_096));
+    let granted = |policy: &Policy| policy.tables[0].grants.iter().filter(|&&g| g).count();
+    assert!(some(&|policy| granted(policy) == 1));
+    assert!(some(&|policy| granted(policy) > 1_000));
+}
+
+#[test]
+fn worst_files_have_many_rounds() {
+    // Every seventh has one access in a round.
+    let numbers = (0..10).map(|turn| 7 * turn);
+    let composed = numbers.map(|number| compose(&generate::policy(12, number, Kind::Worst)));
+    let rounds = composed.map(|composed| composed.expect("accepted").rounds);
+    let most = rounds.max();
+    assert!(most > Some(100_000), "{most:?}");
+}
+
 #[test]
 fn damaged_files_meet_every_refusal() {
     let mut times = [0; 16];
@@ -162,10 +255,6 @@ fn large_files_are_near_the_limits() {
     assert!(some(&|policy| policy.tables.len() == 16));
     assert!(some(&|policy| operators(&policy.expression) == 64));
     assert!(some(&|policy| sets_held(&policy.expression) == 14));
-    let closures = |policy: &Policy| {
-        let closure = |step: &&Step| matches!(step, Step::Closure(_));
-        policy.expression.iter().filter(closure).count()
-    };
     assert!(some(&|policy| closures(policy) == 43));
     let number = |file: &Vec<u8>| check(file).err().map(|refusal| refusal.number);
     for wanted in [2, 12, 13, 14] {
@@ -253,7 +342,7 @@ fn assert_calls_agree(file: &[u8]) {
 
 #[test]
 fn calls_agree() {
-    for file in files(10, 240, Kind::Mixed) {
+    for file in files(10, 240, Kind::Mixed).chain(files(10, 120, Kind::Ruled)) {
         assert_calls_agree(&file);
     }
 }

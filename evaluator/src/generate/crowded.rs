@@ -45,6 +45,7 @@ fn build(random: &mut Random, crowd: Crowd) -> Draft {
         rules: 4,
         grants: random.choose(&[10, 40, 150]),
         instances: 5_000,
+        atoms: &sound::ATOMS,
         short_names: false,
         crowd: Some(crowd),
         bounds: Bounds {

@@ -12,7 +12,7 @@ pub struct Bounds {
 const SORT_LETTERS: [&str; 3] = ["s", "o", "a"];
 /// Comparisons that keep more stand twice.
 const COMPARISONS: [&str; 7] = ["<=", "<=", ">=", ">=", "<", ">", "="];
-const JOINS: [&str; 3] = ["+", "&", "-"];
+pub const JOINS: [&str; 3] = ["+", "&", "-"];
 
 /// An expression over what the draft declares, with no more operators, sets
 /// held and open brackets than the bounds say.

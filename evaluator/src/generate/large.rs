@@ -46,6 +46,7 @@ fn full_house(random: &mut Random) -> Draft {
         rules: MOST_RULES,
         grants: random.choose(&[0, 40, 200, 800]),
         instances: 20_000,
+        atoms: &sound::ATOMS,
         short_names: random.percent(80),
         crowd: None,
         bounds: Bounds {
@@ -71,6 +72,7 @@ fn small(random: &mut Random) -> Draft {
         rules: 5,
         grants: 12,
         instances: 5_000,
+        atoms: &sound::ATOMS,
         short_names: true,
         crowd: None,
         bounds: Bounds {
@@ -141,7 +143,7 @@ fn zigzag(random: &mut Random, turn: u64) -> Draft {
     draft.lines.push("G,start,u0,v0,w0".to_string());
     let mut rules = Vec::new();
     for place in 0..3 {
-        zigzag_rules(&draft, &order[..=place], &mut rules);
+        zigzag_rules(&draft.members, &order[..=place], &mut rules);
     }
     random.shuffle(&mut rules);
     draft.lines.extend(rules.into_iter().flatten());
@@ -160,7 +162,7 @@ fn zigzag(random: &mut Random, turn: u64) -> Draft {
 
 /// The steps of the last sort given. The sorts before it, which run faster,
 /// are at their last member and go back to their first.
-fn zigzag_rules(draft: &Draft, sorts: &[usize], rules: &mut Vec<Vec<String>>) {
+pub fn zigzag_rules(names: &[Vec<String>; 3], sorts: &[usize], rules: &mut Vec<Vec<String>>) {
     let (&along, faster) = match sorts.split_last() {
         Some(split) => split,
         None => return,
@@ -168,11 +170,11 @@ fn zigzag_rules(draft: &Draft, sorts: &[usize], rules: &mut Vec<Vec<String>>) {
     let mut head: Vec<String> = (0..3).map(|sort| format!("?{sort}")).collect();
     let mut body = head.clone();
     for &sort in faster {
-        let members = &draft.members[sort];
+        let members = &names[sort];
         head[sort] = members[0].clone();
         body[sort] = members[members.len() - 1].clone();
     }
-    let members = &draft.members[along];
+    let members = &names[along];
     let chained = members.len() > 16;
     for number in 1..members.len() {
         if chained && number % 8 != 0 {
@@ -341,6 +343,7 @@ fn dense_rules(random: &mut Random) -> Draft {
         rules: 1,
         grants: random.choose(&[60, 300, 1_000]),
         instances: 300_000,
+        atoms: &sound::ATOMS,
         short_names: true,
         crowd: None,
         bounds: Bounds {

@@ -1,12 +1,15 @@
 //! A seeded generator of policy files, for comparing programs on many files.
 //! The same seed, number and kind give the same bytes on every machine.
 
+mod barren;
 mod crowded;
 mod damaged;
 mod expression;
 mod large;
 pub mod random;
+mod ruled;
 mod sound;
+mod worst;
 
 use random::Random;
 
@@ -22,15 +25,21 @@ pub enum Kind {
     Mixed,
     /// Files whose members' names share slots of the index.
     Crowded,
+    /// Small accepted files with many rules and closures.
+    Ruled,
+    /// Accepted files whose closures cost much.
+    Worst,
 }
 
 impl Kind {
-    pub const ALL: [Kind; 5] = [
+    pub const ALL: [Kind; 7] = [
         Kind::Sound,
         Kind::Damaged,
         Kind::Large,
         Kind::Mixed,
         Kind::Crowded,
+        Kind::Ruled,
+        Kind::Worst,
     ];
 
     pub fn word(self) -> &'static str {
@@ -40,6 +49,8 @@ impl Kind {
             Kind::Large => "large",
             Kind::Mixed => "mixed",
             Kind::Crowded => "crowded",
+            Kind::Ruled => "ruled",
+            Kind::Worst => "worst",
         }
     }
 }
@@ -52,6 +63,8 @@ pub fn policy(seed: u64, number: u64, kind: Kind) -> Vec<u8> {
         Kind::Damaged => damaged::policy(random, number),
         Kind::Large => large::policy(random, number),
         Kind::Crowded => crowded::policy(random, number),
+        Kind::Ruled => ruled::policy(random).file(),
+        Kind::Worst => worst::policy(random, number),
         Kind::Mixed => match number % 8 {
             0..=3 => sound::policy(random).file(),
             4..=6 => damaged::policy(random, number),

@@ -15,6 +15,8 @@ pub struct Plan {
     pub grants: usize,
     /// Most instances that one rule may have.
     pub instances: usize,
+    /// How many atoms the body of a rule of any shape has: one of these.
+    pub atoms: &'static [usize],
     pub short_names: bool,
     /// Where the members' names begin in the index; anywhere if there is none.
     pub crowd: Option<Crowd>,
@@ -40,6 +42,7 @@ pub struct Draft {
     pub lines: Vec<String>,
 }
 
+pub const ATOMS: [usize; 11] = [0, 1, 1, 1, 2, 2, 2, 3, 3, 4, 4];
 pub const SORT_WORDS: [&str; 3] = ["S", "O", "A"];
 pub const ORDER_WORDS: [&str; 5] = ["le", "ge", "lt", "gt", "eq"];
 
@@ -98,6 +101,7 @@ fn plan(random: &mut Random) -> Plan {
         rules,
         grants: random.choose(&[0, 4, 8, 12, 20, 30]),
         instances: 5_000,
+        atoms: &ATOMS,
         short_names: false,
         crowd: None,
         bounds: Bounds {
@@ -333,6 +337,7 @@ fn rule(
         sorts: [None; 4],
         instances: 1,
         most: plan.instances,
+        atoms: plan.atoms,
         constants: if form < 6 { 8 } else { 25 },
     };
     match (step, form) {
@@ -353,6 +358,7 @@ struct RuleWriter<'a> {
     sorts: [Option<usize>; 4],
     instances: usize,
     most: usize,
+    atoms: &'static [usize],
     /// The percentage of members among the terms.
     constants: usize,
 }
@@ -438,7 +444,7 @@ impl RuleWriter<'_> {
 
     fn any(&mut self, set: &str) -> Vec<String> {
         let mut lines = vec![format!("R,{set},{}", self.terms().join(","))];
-        for _ in 0..self.random.choose(&[0, 1, 1, 1, 2, 2, 2, 3, 3, 4, 4]) {
+        for _ in 0..self.random.choose(self.atoms) {
             lines.push(self.atom());
         }
         lines
