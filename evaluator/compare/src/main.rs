@@ -3,10 +3,13 @@
 //!   compare check SEED COUNT            Check on generated files
 //!   compare calls SEED COUNT            Check, Compose and Decide on generated files, with every buffer
 //!   compare crowded SEED COUNT          the same on files whose members' names share slots of the index
+//!   compare ruled SEED COUNT            the same on small files with many rules and closures
+//!   compare worst SEED COUNT            the same on files whose closures cost much
 //!   compare edits FILE                  all three on FILE cut at every byte, and with every byte changed
 //!   compare corpus DIR                  all three on every policy of a corpus, with asks.tsv
 //!   compare folder DIR                  all three on every policy of a folder
 //!   compare list PROGRAM SEED COUNT     the listing program on generated files
+//!   compare listings PROGRAM DIR        the listing program on every policy of a folder
 //!   compare lookups PROGRAM SEED COUNT  the program of lookups on the crowded files
 //!
 //! `run` does all of these. The last line reads 'N passed, M failed'; a difference prints the seed and number that make the file again.
@@ -40,6 +43,11 @@ impl Tally {
             }
         }
     }
+
+    pub fn add(&mut self, other: Tally) {
+        self.passed += other.passed;
+        self.failed += other.failed;
+    }
 }
 
 fn generated(kind: Kind, seed: u64, count: u64, mut compare: impl FnMut(&[u8]) -> Option<String>) -> Tally {
@@ -51,8 +59,8 @@ fn generated(kind: Kind, seed: u64, count: u64, mut compare: impl FnMut(&[u8]) -
     tally
 }
 
-/// All three calls on every policy of a folder.
-fn folder(path: &str, tally: &mut Tally) {
+/// A comparison on every policy of a folder.
+fn folder(path: &str, compare: impl Fn(&[u8]) -> Option<String>) -> Tally {
     let mut files: Vec<_> = std::fs::read_dir(path)
         .expect("a folder")
         .map(|entry| entry.expect("an entry").path())
@@ -60,16 +68,18 @@ fn folder(path: &str, tally: &mut Tally) {
         .collect();
     files.sort();
     assert!(!files.is_empty(), "no policy in {path}");
+    let mut tally = Tally::default();
     for path in files {
         let file = std::fs::read(&path).expect("a policy");
-        tally.count(|| path.display().to_string(), calls::all(&file));
+        tally.count(|| path.display().to_string(), compare(&file));
     }
+    tally
 }
 
 fn corpus(path: &str) -> Tally {
     let mut tally = Tally::default();
-    for group in ["worked", "readings", "valid", "broken", "big", "cr/02/readings", "cr/02/valid", "cr/02/broken"] {
-        folder(&format!("{path}/{group}"), &mut tally);
+    for group in ["worked", "readings", "valid", "broken", "big", "heavy", "cr/02/readings", "cr/02/valid", "cr/02/broken"] {
+        tally.add(folder(&format!("{path}/{group}"), calls::all));
     }
     for line in std::fs::read_to_string(format!("{path}/asks.tsv")).expect("asks.tsv").lines() {
         let fields: Vec<&str> = line.split('\t').collect();
@@ -121,17 +131,17 @@ fn main() -> ExitCode {
         Some("check") => generated(Kind::Mixed, number(words.get(1)), number(words.get(2)), calls::check),
         Some("calls") => generated(Kind::Mixed, number(words.get(1)), number(words.get(2)), calls::all),
         Some("crowded") => generated(Kind::Crowded, number(words.get(1)), number(words.get(2)), calls::all),
+        Some("ruled") => generated(Kind::Ruled, number(words.get(1)), number(words.get(2)), calls::all),
+        Some("worst") => generated(Kind::Worst, number(words.get(1)), number(words.get(2)), calls::all),
         Some("edits") => edits::all(&std::fs::read(&words[1]).expect("a policy")),
         Some("corpus") => corpus(&words[1]),
-        Some("folder") => {
-            let mut tally = Tally::default();
-            folder(&words[1], &mut tally);
-            tally
-        }
+        Some("folder") => folder(&words[1], calls::all),
         Some("list") => generated(Kind::Mixed, number(words.get(2)), number(words.get(3)), |file| listing(&words[1], file)),
+        Some("listings") => folder(&words[2], |file| listing(&words[1], file)),
         Some("lookups") => lookups::all(&words[1], number(words.get(2)), number(words.get(3))),
         _ => {
-            eprintln!("compare check|calls|crowded SEED COUNT | edits FILE | corpus DIR | folder DIR | list|lookups PROGRAM SEED COUNT");
+            eprintln!("compare check|calls|crowded|ruled|worst SEED COUNT | edits FILE | corpus|folder DIR");
+            eprintln!("compare list|lookups PROGRAM SEED COUNT | listings PROGRAM DIR");
             return ExitCode::FAILURE;
         }
     };
