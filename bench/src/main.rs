@@ -7,8 +7,14 @@
 //! Or two builds of the engine beside each other, each as a shared library:
 //!
 //!   bench builds BEFORE AFTER [TURNS] FILE..      (TURNS 25 unless given)
+//!
+//! Or closures: of the corpus's heavy and big files, or of those given; and of generated worst-shaped files, Compose alone.
+//!
+//!   bench heavy [TURNS] [FILE..]      (TURNS 5 unless given)
+//!   bench worst SEED COUNT
 
 mod builds;
+mod closures;
 mod files;
 mod plain;
 
@@ -17,17 +23,19 @@ use std::time::{Duration, Instant};
 /// The least time of one call, over some turns; short calls are repeated.
 struct Timed {
     least: Duration,
+    /// How long all turns have taken.
+    spent: Duration,
 }
 
 impl Timed {
     fn new() -> Timed {
-        Timed { least: Duration::MAX }
+        Timed { least: Duration::MAX, spent: Duration::ZERO }
     }
 
     fn turn(&mut self, mut call: impl FnMut()) {
-        let start = Instant::now();
+        let first = Instant::now();
         call();
-        let mut took = start.elapsed();
+        let mut took = first.elapsed();
         if took < Duration::from_millis(5) {
             let times = (Duration::from_millis(20).as_nanos() / took.as_nanos().max(1)).clamp(1, 10_000) as u32;
             let start = Instant::now();
@@ -37,6 +45,7 @@ impl Timed {
             took = start.elapsed() / times;
         }
         self.least = self.least.min(took);
+        self.spent += first.elapsed();
     }
 
     fn micros(&self) -> f64 {
@@ -44,12 +53,15 @@ impl Timed {
     }
 }
 
+fn file_name(path: &str) -> String {
+    path.rsplit('/').next().unwrap_or(path).to_string()
+}
+
 /// The files made for the benchmark, and those that are given.
 fn named(words: &[String]) -> Vec<(String, Vec<u8>)> {
     let mut files = files::made();
     for word in words {
-        let name = word.rsplit('/').next().unwrap_or(word).to_string();
-        files.push((name, std::fs::read(word).expect("a policy")));
+        files.push((file_name(word), std::fs::read(word).expect("a policy")));
     }
     files
 }
@@ -73,21 +85,15 @@ fn row(name: &str, what: &str, engine: &Timed, others: &[(&str, &Timed)]) {
     println!();
 }
 
-fn main() {
-    let mut words: Vec<String> = std::env::args().skip(1).collect();
-    if words.first().is_some_and(|word| word == "builds") {
-        words.remove(0);
-        let turns = turns(&mut words, 2, 25);
-        return builds::compare(&words, turns);
-    }
-    let turns = turns(&mut words, 0, 5);
+/// Check beside the evaluator; Compose and Decide beside the plain program and the evaluator.
+fn beside(words: &[String], turns: u32) {
     let mut result = vec![0u8; snowdell::RESULT];
     let mut memory = vec![0u8; snowdell::MEMORY];
 
     println!("Times in microseconds, the least of {turns} turns; ratio = engine / other.\n");
     println!("| file | call | engine | evaluator | ratio |");
     println!("|---|---|---|---|---|");
-    let files = named(&words);
+    let files = named(words);
     for (name, file) in &files {
         let (mut engine, mut other) = (Timed::new(), Timed::new());
         for _ in 0..turns {
@@ -133,5 +139,28 @@ fn main() {
         }
         row(name, "Compose", &engine, &[("plain", &plain), ("evaluator", &other)]);
         row(name, "Decide", &asked, &[("plain", &plain), ("evaluator", &other)]);
+    }
+}
+
+fn main() {
+    let mut words: Vec<String> = std::env::args().skip(1).collect();
+    let first = words.first().cloned().unwrap_or_default();
+    match first.as_str() {
+        "builds" => {
+            let turns = turns(&mut words, 3, 25);
+            builds::compare(&words[1..], turns);
+        }
+        "heavy" => {
+            let turns = turns(&mut words, 1, 5);
+            closures::heavy(&words[1..], turns);
+        }
+        "worst" => {
+            let number = |at: usize| words.get(at).and_then(|word| word.parse().ok()).expect("bench worst SEED COUNT");
+            closures::worst(number(1), number(2));
+        }
+        _ => {
+            let turns = turns(&mut words, 0, 5);
+            beside(&words, turns);
+        }
     }
 }
