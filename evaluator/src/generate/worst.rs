@@ -97,7 +97,7 @@ impl Ground {
     /// Members in chains of this length, none of which runs from one part into
     /// the next. Sorts of more than four members are parted.
     fn new(random: &mut Random, counts: [usize; 3], chain: usize) -> Ground {
-        let (share, bare) = (random.choose(&[0, 5, 30, 50]), random.between(1, 2));
+        let (share, bare) = (random.choose(&[0, 5, 30, 50, 50]), random.between(1, 2));
         let parts = counts.map(|count| {
             let (share, bare) = if count > 4 { (share, bare) } else { (0, 0) };
             let isle = (count - bare) * share / 100;
