@@ -48,11 +48,11 @@ module _ (number : Kind → List ℕ → Option ℕ) (t : List ℕ) (p q : Progr
         told-stuck n d (g .within) (g .reads [] ∙ run-stop t n (have 32 [] (g .left) (g .end)) (omega (arith, g .within))
         (delims 32 [] _ _ _ (g .no-suffix) (g .no-sign) ∙ top-none 32 _ _))
 
-    pub r-whole : Empty p → length t ≤ 32768 → n ≡ length t → Answer number t record { answer = Good n; program = q }
+    pub r-whole : (d : Program) → d ≡ q → Empty p → length t ≤ 32768 → n ≡ length t → Answer number t record { answer = Good n; program = d }
     unfolding Told told finish last
-    r-whole z l h =
+    r-whole d i z l h =
         let g = the-expression in
         let y : reading t ≡ read (join (g .left) (g .end)) = reading-is t ∙ ap (told t) (g .reads [] ∙ run-end t n _ (omega arith)) in
         let w = yields number (join (g .left) (g .end)) p z (omega (arith, g .spans)) in
-        subst (λ (v : Reading). Told number t v record { answer = Good n; program = q }) (sym y)
-        (ap Good h, subst (Yields number (join (g .left) (g .end))) (sym (g .emits)) w)
+        subst (λ (v : Reading). Told number t v record { answer = Good n; program = d }) (sym y)
+        (ap Good h, subst (Yields number (join (g .left) (g .end))) (sym (i ∙ g .emits)) w)

@@ -1,27 +1,22 @@
-// Reading an expression: it is read, its names are looked up, and the postfix program of its tree is made; or the place of its first wrong byte.
+// Reading an expression: it is read, its names are looked up, and the postfix program of its tree is made; or the place of its first wrong byte. While it is
+// read, the cells of the program stand in one slice, which each function lends on, so that an open bracket costs little room.
 mod text_reader;
 
 use names::NameCounts;
 use names::NameKind;
-use names::look;
 use text_reader::ends_at;
 use text_reader::from_start;
 use words::Cell;
+use words::Drawn;
 use words::Made;
 use words::Parsed;
+use words::Passed;
 use words::Place;
-use words::Program;
 use words::ScopeRead;
 use words::ScopeText;
-use words::height_after;
-use words::is_settled;
 use words::is_suffix;
-use words::larger;
-use words::missing_after;
-use words::number_of;
-use words::numbered;
-use words::operators_after;
 use words::peek;
+use words::program_of;
 use words::put;
 use words::put_name;
 use words::read_name;
@@ -34,9 +29,10 @@ ghost use mathlib.Core.Bool.{true};
 ghost use Prim.Native.Nat.{_≤_};
 ghost use lib.ListN.{length, getD};
 ghost use Rattle.words.specs.Contract.{suffixByte, SuffixAt, SuffixesAt, PrimaryAt, FactorAt, MoreAt, ExpressionAt, PartAt, OverrideAt, Answer};
+ghost use Rattle.words.specs.Drawn.{programIn};
 ghost use Rattle.names.specs.Entries.{Sound, lookupIn};
 
-// ---- the parts of an expression. Each takes the program so far, and how many brackets more may be opened.
+// ---- the parts of an expression. Each is lent the cells so far, in the slice m, and takes what is known of them, and how many brackets more may be opened.
 
 // A scope or a closure after a primary.
 fn suffix(t: &[u8], at: usize) -> ScopeRead
@@ -72,8 +68,8 @@ fn suffix(t: &[u8], at: usize) -> ScopeRead
     scope(t, n + 1)
 }
 
-// The program is changed in place: an expression may have thousands of suffixes.
 fn suffixes<'a>(
+    m: &mut [u8],
     t: &'a [u8],
     at: usize,
     f: &'a [u8],
@@ -81,60 +77,50 @@ fn suffixes<'a>(
     ends: &'a [u16],
     tags: &'a [u8],
     counts: NameCounts,
-    p: Program,
-) -> Made
-    requires { ⌜ Sound (now f) (now starts) (now ends) (now tags) counts × (at ≤ length (now t)) ⌝ }
-    ensures { λ r. ⌜ SuffixesAt (lookupIn (now (f .entry)) (now (starts .entry)) (now (ends .entry)) (now (tags .entry)) counts) (now (t .entry)) at p (r .program) (r .answer) ⌝ }
+    p: Drawn,
+) -> Passed
+    requires { ⌜ Sound (now f) (now starts) (now ends) (now tags) counts × (at ≤ length (now t)) × (772 ≤ length (now m)) ⌝ }
+    ensures { λ r. ⌜ SuffixesAt (lookupIn (now (f .entry)) (now (starts .entry)) (now (ends .entry)) (now (tags .entry)) counts) (now (t .entry)) at (programIn (now (m .entry)) p) (programIn (now (m .exit)) (r .drawn)) (r .answer) ⌝ }
 {
     let mut q = p;
-    let mut missing = p.missing;
     let mut i = at;
     while is_suffix(peek(t, i)) {
         match suffix(t, i) {
             ScopeRead::NoScope(e) => {
-                return Made {
+                return Passed {
                     answer: Parsed::Bad(e),
-                    program: p,
+                    drawn: p,
                 };
             }
             ScopeRead::Scoped(x) => {
                 let name = x.name;
-                let unnumbered = x.cell;
-                q.height = height_after(q.height, unnumbered.kind);
-                q.held = larger(q.held, q.height);
-                q.operators = operators_after(q.operators, unnumbered.kind);
+                let cell = x.cell;
+                q = put_name(
+                    m,
+                    f,
+                    starts,
+                    ends,
+                    tags,
+                    counts,
+                    name,
+                    t,
+                    x.from,
+                    x.to,
+                    cell,
+                    q,
+                );
                 i = x.next;
-                if is_settled(q.used, missing) {
-                    continue;
-                }
-                let n = look(f, starts, ends, tags, counts, name, t, x.from, x.to);
-                let cell = numbered(unnumbered, number_of(n));
-                missing = missing_after(missing, n, x.from);
-                if q.used < 193 {
-                    let k = q.used;
-                    q.cells[k] = cell;
-                    q.used = k + 1;
-                    continue;
-                }
             }
         }
     }
-    let cells = q.cells;
-    let program = Program {
-        cells: cells,
-        used: q.used,
-        operators: q.operators,
-        height: q.height,
-        held: q.held,
-        missing: missing,
-    };
-    Made {
+    Passed {
         answer: Parsed::Good(i),
-        program: program,
+        drawn: q,
     }
 }
 
 fn primary<'a>(
+    m: &mut [u8],
     t: &'a [u8],
     at: usize,
     allow: usize,
@@ -143,40 +129,52 @@ fn primary<'a>(
     ends: &'a [u16],
     tags: &'a [u8],
     counts: NameCounts,
-    p: Program,
-) -> Made
-    requires { ⌜ Sound (now f) (now starts) (now ends) (now tags) counts × (at ≤ length (now t)) ⌝ }
-    ensures { λ r. ⌜ PrimaryAt (lookupIn (now (f .entry)) (now (starts .entry)) (now (ends .entry)) (now (tags .entry)) counts) (now (t .entry)) at allow p (r .program) (r .answer) ⌝ }
+    p: Drawn,
+) -> Passed
+    requires { ⌜ Sound (now f) (now starts) (now ends) (now tags) counts × (at ≤ length (now t)) × (772 ≤ length (now m)) ⌝ }
+    ensures { λ r. ⌜ PrimaryAt (lookupIn (now (f .entry)) (now (starts .entry)) (now (ends .entry)) (now (tags .entry)) counts) (now (t .entry)) at allow (programIn (now (m .entry)) p) (programIn (now (m .exit)) (r .drawn)) (r .answer) ⌝ }
 {
     if peek(t, at) == b'(' {
         if allow == 0 {
-            return Made {
+            return Passed {
                 answer: Parsed::Bad(at),
-                program: p,
+                drawn: p,
             };
         }
-        let m = part(t, at + 1, allow - 1, b')', f, starts, ends, tags, counts, p);
-        let k = m.answer;
-        let q = m.program;
+        let v = part(
+            m,
+            t,
+            at + 1,
+            allow - 1,
+            b')',
+            f,
+            starts,
+            ends,
+            tags,
+            counts,
+            p,
+        );
+        let k = v.answer;
+        let q = v.drawn;
         match k {
             Parsed::Bad(e) => {
-                return Made {
+                return Passed {
                     answer: Parsed::Bad(e),
-                    program: p,
+                    drawn: p,
                 };
             }
             Parsed::Good(e) => {
-                return Made {
+                return Passed {
                     answer: Parsed::Good(e + 1),
-                    program: q,
+                    drawn: q,
                 };
             }
         }
     }
     match word(t, at) {
-        Parsed::Bad(e) => Made {
+        Parsed::Bad(e) => Passed {
             answer: Parsed::Bad(e),
-            program: p,
+            drawn: p,
         },
         Parsed::Good(e) => {
             let sort = word_sort(t, at, e);
@@ -188,6 +186,7 @@ fn primary<'a>(
                     number: 0,
                 };
                 let q = put_name(
+                    m,
                     f,
                     starts,
                     ends,
@@ -200,36 +199,37 @@ fn primary<'a>(
                     cell,
                     p,
                 );
-                return Made {
+                return Passed {
                     answer: Parsed::Good(e),
-                    program: q,
+                    drawn: q,
                 };
             }
             if sort != 1 {
-                return Made {
+                return Passed {
                     answer: Parsed::Bad(e),
-                    program: p,
+                    drawn: p,
                 };
             }
             if peek(t, e) != b'(' {
-                return Made {
+                return Passed {
                     answer: Parsed::Bad(e),
-                    program: p,
+                    drawn: p,
                 };
             }
             if allow == 0 {
-                return Made {
+                return Passed {
                     answer: Parsed::Bad(e),
-                    program: p,
+                    drawn: p,
                 };
             }
-            overridden(t, e + 1, allow - 1, f, starts, ends, tags, counts, p)
+            overridden(m, t, e + 1, allow - 1, f, starts, ends, tags, counts, p)
         }
     }
 }
 
 // The three parts of 'o(', from the first on.
 fn overridden<'a>(
+    m: &mut [u8],
     t: &'a [u8],
     at: usize,
     allow: usize,
@@ -238,36 +238,36 @@ fn overridden<'a>(
     ends: &'a [u16],
     tags: &'a [u8],
     counts: NameCounts,
-    p: Program,
-) -> Made
-    requires { ⌜ Sound (now f) (now starts) (now ends) (now tags) counts × (at ≤ length (now t)) ⌝ }
-    ensures { λ r. ⌜ OverrideAt (lookupIn (now (f .entry)) (now (starts .entry)) (now (ends .entry)) (now (tags .entry)) counts) (now (t .entry)) at allow p (r .program) (r .answer) ⌝ }
+    p: Drawn,
+) -> Passed
+    requires { ⌜ Sound (now f) (now starts) (now ends) (now tags) counts × (at ≤ length (now t)) × (772 ≤ length (now m)) ⌝ }
+    ensures { λ r. ⌜ OverrideAt (lookupIn (now (f .entry)) (now (starts .entry)) (now (ends .entry)) (now (tags .entry)) counts) (now (t .entry)) at allow (programIn (now (m .entry)) p) (programIn (now (m .exit)) (r .drawn)) (r .answer) ⌝ }
 {
-    let m = part(t, at, allow, b',', f, starts, ends, tags, counts, p);
-    let k = m.answer;
-    let q = m.program;
+    let v = part(m, t, at, allow, b',', f, starts, ends, tags, counts, p);
+    let k = v.answer;
+    let q = v.drawn;
     match k {
-        Parsed::Bad(e) => Made {
+        Parsed::Bad(e) => Passed {
             answer: Parsed::Bad(e),
-            program: p,
+            drawn: p,
         },
         Parsed::Good(i) => {
-            let m2 = part(t, i + 1, allow, b',', f, starts, ends, tags, counts, q);
-            let k2 = m2.answer;
-            let q2 = m2.program;
+            let v2 = part(m, t, i + 1, allow, b',', f, starts, ends, tags, counts, q);
+            let k2 = v2.answer;
+            let q2 = v2.drawn;
             match k2 {
-                Parsed::Bad(e) => Made {
+                Parsed::Bad(e) => Passed {
                     answer: Parsed::Bad(e),
-                    program: p,
+                    drawn: p,
                 },
                 Parsed::Good(j) => {
-                    let m3 = part(t, j + 1, allow, b')', f, starts, ends, tags, counts, q2);
-                    let k3 = m3.answer;
-                    let q3 = m3.program;
+                    let v3 = part(m, t, j + 1, allow, b')', f, starts, ends, tags, counts, q2);
+                    let k3 = v3.answer;
+                    let q3 = v3.drawn;
                     match k3 {
-                        Parsed::Bad(e) => Made {
+                        Parsed::Bad(e) => Passed {
                             answer: Parsed::Bad(e),
-                            program: p,
+                            drawn: p,
                         },
                         Parsed::Good(n) => {
                             let cell = Cell {
@@ -276,10 +276,10 @@ fn overridden<'a>(
                                 op: 0,
                                 number: 0,
                             };
-                            let q4 = put(q3, cell);
-                            Made {
+                            let q4 = put(m, q3, cell);
+                            Passed {
                                 answer: Parsed::Good(n + 1),
-                                program: q4,
+                                drawn: q4,
                             }
                         }
                     }
@@ -291,6 +291,7 @@ fn overridden<'a>(
 
 // An expression in brackets, up to the byte that ends it.
 fn part<'a>(
+    m: &mut [u8],
     t: &'a [u8],
     at: usize,
     allow: usize,
@@ -300,29 +301,29 @@ fn part<'a>(
     ends: &'a [u16],
     tags: &'a [u8],
     counts: NameCounts,
-    p: Program,
-) -> Made
-    requires { ⌜ Sound (now f) (now starts) (now ends) (now tags) counts × (at ≤ length (now t)) ⌝ }
-    ensures { λ r. ⌜ PartAt (lookupIn (now (f .entry)) (now (starts .entry)) (now (ends .entry)) (now (tags .entry)) counts) (now (t .entry)) at allow end p (r .program) (r .answer) ⌝ }
+    p: Drawn,
+) -> Passed
+    requires { ⌜ Sound (now f) (now starts) (now ends) (now tags) counts × (at ≤ length (now t)) × (772 ≤ length (now m)) ⌝ }
+    ensures { λ r. ⌜ PartAt (lookupIn (now (f .entry)) (now (starts .entry)) (now (ends .entry)) (now (tags .entry)) counts) (now (t .entry)) at allow end (programIn (now (m .entry)) p) (programIn (now (m .exit)) (r .drawn)) (r .answer) ⌝ }
 {
-    let m = expression(t, at, allow, f, starts, ends, tags, counts, p);
-    let k = m.answer;
-    let q = m.program;
+    let v = expression(m, t, at, allow, f, starts, ends, tags, counts, p);
+    let k = v.answer;
+    let q = v.drawn;
     match k {
-        Parsed::Bad(e) => Made {
+        Parsed::Bad(e) => Passed {
             answer: Parsed::Bad(e),
-            program: p,
+            drawn: p,
         },
         Parsed::Good(n) => {
             if peek(t, n) != end {
-                return Made {
+                return Passed {
                     answer: Parsed::Bad(n),
-                    program: p,
+                    drawn: p,
                 };
             }
-            Made {
+            Passed {
                 answer: Parsed::Good(n),
-                program: q,
+                drawn: q,
             }
         }
     }
@@ -330,6 +331,7 @@ fn part<'a>(
 
 // A primary with its scopes and closures.
 fn factor<'a>(
+    m: &mut [u8],
     t: &'a [u8],
     at: usize,
     allow: usize,
@@ -338,25 +340,26 @@ fn factor<'a>(
     ends: &'a [u16],
     tags: &'a [u8],
     counts: NameCounts,
-    p: Program,
-) -> Made
-    requires { ⌜ Sound (now f) (now starts) (now ends) (now tags) counts × (at ≤ length (now t)) ⌝ }
-    ensures { λ r. ⌜ FactorAt (lookupIn (now (f .entry)) (now (starts .entry)) (now (ends .entry)) (now (tags .entry)) counts) (now (t .entry)) at allow p (r .program) (r .answer) ⌝ }
+    p: Drawn,
+) -> Passed
+    requires { ⌜ Sound (now f) (now starts) (now ends) (now tags) counts × (at ≤ length (now t)) × (772 ≤ length (now m)) ⌝ }
+    ensures { λ r. ⌜ FactorAt (lookupIn (now (f .entry)) (now (starts .entry)) (now (ends .entry)) (now (tags .entry)) counts) (now (t .entry)) at allow (programIn (now (m .entry)) p) (programIn (now (m .exit)) (r .drawn)) (r .answer) ⌝ }
 {
-    let m = primary(t, at, allow, f, starts, ends, tags, counts, p);
-    let k = m.answer;
-    let q = m.program;
+    let v = primary(m, t, at, allow, f, starts, ends, tags, counts, p);
+    let k = v.answer;
+    let q = v.drawn;
     match k {
-        Parsed::Bad(e) => Made {
+        Parsed::Bad(e) => Passed {
             answer: Parsed::Bad(e),
-            program: p,
+            drawn: p,
         },
-        Parsed::Good(n) => suffixes(t, n, f, starts, ends, tags, counts, q),
+        Parsed::Good(n) => suffixes(m, t, n, f, starts, ends, tags, counts, q),
     }
 }
 
 // The signs and factors that follow a factor.
 fn more<'a>(
+    m: &mut [u8],
     t: &'a [u8],
     at: usize,
     allow: usize,
@@ -365,29 +368,29 @@ fn more<'a>(
     ends: &'a [u16],
     tags: &'a [u8],
     counts: NameCounts,
-    p: Program,
-) -> Made
-    requires { ⌜ Sound (now f) (now starts) (now ends) (now tags) counts × (at ≤ length (now t)) ⌝ }
-    ensures { λ r. ⌜ MoreAt (lookupIn (now (f .entry)) (now (starts .entry)) (now (ends .entry)) (now (tags .entry)) counts) (now (t .entry)) at allow p (r .program) (r .answer) ⌝ }
+    p: Drawn,
+) -> Passed
+    requires { ⌜ Sound (now f) (now starts) (now ends) (now tags) counts × (at ≤ length (now t)) × (772 ≤ length (now m)) ⌝ }
+    ensures { λ r. ⌜ MoreAt (lookupIn (now (f .entry)) (now (starts .entry)) (now (ends .entry)) (now (tags .entry)) counts) (now (t .entry)) at allow (programIn (now (m .entry)) p) (programIn (now (m .exit)) (r .drawn)) (r .answer) ⌝ }
 {
     let mut q = p;
     let mut i = at;
     loop {
         let kind = sign(peek(t, i));
         if kind == 0 {
-            return Made {
+            return Passed {
                 answer: Parsed::Good(i),
-                program: q,
+                drawn: q,
             };
         }
-        let m = factor(t, i + 1, allow, f, starts, ends, tags, counts, q);
-        let k = m.answer;
-        let g = m.program;
+        let v = factor(m, t, i + 1, allow, f, starts, ends, tags, counts, q);
+        let k = v.answer;
+        let g = v.drawn;
         match k {
             Parsed::Bad(e) => {
-                return Made {
+                return Passed {
                     answer: Parsed::Bad(e),
-                    program: q,
+                    drawn: q,
                 };
             }
             Parsed::Good(e) => {
@@ -397,7 +400,7 @@ fn more<'a>(
                     op: 0,
                     number: 0,
                 };
-                q = put(g, cell);
+                q = put(m, g, cell);
                 i = e;
             }
         }
@@ -405,6 +408,7 @@ fn more<'a>(
 }
 
 fn expression<'a>(
+    m: &mut [u8],
     t: &'a [u8],
     at: usize,
     allow: usize,
@@ -413,20 +417,20 @@ fn expression<'a>(
     ends: &'a [u16],
     tags: &'a [u8],
     counts: NameCounts,
-    p: Program,
-) -> Made
-    requires { ⌜ Sound (now f) (now starts) (now ends) (now tags) counts × (at ≤ length (now t)) ⌝ }
-    ensures { λ r. ⌜ ExpressionAt (lookupIn (now (f .entry)) (now (starts .entry)) (now (ends .entry)) (now (tags .entry)) counts) (now (t .entry)) at allow p (r .program) (r .answer) ⌝ }
+    p: Drawn,
+) -> Passed
+    requires { ⌜ Sound (now f) (now starts) (now ends) (now tags) counts × (at ≤ length (now t)) × (772 ≤ length (now m)) ⌝ }
+    ensures { λ r. ⌜ ExpressionAt (lookupIn (now (f .entry)) (now (starts .entry)) (now (ends .entry)) (now (tags .entry)) counts) (now (t .entry)) at allow (programIn (now (m .entry)) p) (programIn (now (m .exit)) (r .drawn)) (r .answer) ⌝ }
 {
-    let m = factor(t, at, allow, f, starts, ends, tags, counts, p);
-    let k = m.answer;
-    let q = m.program;
+    let v = factor(m, t, at, allow, f, starts, ends, tags, counts, p);
+    let k = v.answer;
+    let q = v.drawn;
     match k {
-        Parsed::Bad(e) => Made {
+        Parsed::Bad(e) => Passed {
             answer: Parsed::Bad(e),
-            program: p,
+            drawn: p,
         },
-        Parsed::Good(n) => more(t, n, allow, f, starts, ends, tags, counts, q),
+        Parsed::Good(n) => more(m, t, n, allow, f, starts, ends, tags, counts, q),
     }
 }
 
@@ -442,39 +446,33 @@ pub fn read<'a>(
     requires { ⌜ Sound (now f) (now starts) (now ends) (now tags) counts × (length (now t) ≤ 32768) ⌝ }
     ensures { λ r. ⌜ Answer (lookupIn (now (f .entry)) (now (starts .entry)) (now (ends .entry)) (now (tags .entry)) counts) (now (t .entry)) r ⌝ }
 {
-    let cell = Cell {
-        kind: 0,
-        sort: 0,
-        op: 0,
-        number: 0,
-    };
-    let cells = [cell; 193];
-    let p = Program {
-        cells: cells,
+    let mut m = [0u8; 772];
+    let none = Drawn {
         used: 0,
         operators: 0,
         height: 0,
         held: 0,
         missing: Place::Nowhere,
     };
-    let m = from_start(t, 32, f, starts, ends, tags, counts, p);
-    let k = m.answer;
-    let q = m.program;
+    let v = from_start(&mut m, t, 32, f, starts, ends, tags, counts, none);
+    let k = v.answer;
+    let q = v.drawn;
+    let program = program_of(&m, q);
     match k {
         Parsed::Bad(e) => Made {
             answer: Parsed::Bad(e),
-            program: q,
+            program: program,
         },
         Parsed::Good(n) => {
             if !ends_at(t, n) {
                 return Made {
                     answer: Parsed::Bad(n),
-                    program: q,
+                    program: program,
                 };
             }
             Made {
                 answer: Parsed::Good(n),
-                program: q,
+                program: program,
             }
         }
     }

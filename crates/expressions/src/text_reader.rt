@@ -2,13 +2,14 @@
 // hand. They are few, and leave the work to `expression` and `at_end`, which take the text and the place.
 use crate::expression;
 use names::NameCounts;
-use words::Made;
-use words::Program;
+use words::Drawn;
+use words::Passed;
 ghost use mathlib.Core.Path.{_≡_};
 ghost use Prim.Native.Nat.{_≤_};
 ghost use lib.Dec.{eqb};
 ghost use lib.ListN.{length};
 ghost use Rattle.words.specs.Contract.{ExpressionAt};
+ghost use Rattle.words.specs.Drawn.{programIn};
 ghost use Rattle.names.specs.Entries.{Sound, lookupIn};
 
 // The expression's text, and the place reached in it.
@@ -26,6 +27,7 @@ fn at_place<'a>(t: &'a [u8], at: usize) -> Reader<'a>
 
 // Reads an expression at the reader's place.
 fn expression_here<'a>(
+    m: &mut [u8],
     r: Reader<'a>,
     allow: usize,
     f: &'a [u8],
@@ -33,16 +35,17 @@ fn expression_here<'a>(
     ends: &'a [u16],
     tags: &'a [u8],
     counts: NameCounts,
-    p: Program,
-) -> Made
-    requires { ⌜ Sound (now f) (now starts) (now ends) (now tags) counts × (r .at ≤ length (now (r .text))) ⌝ }
-    ensures { λ m. ⌜ ExpressionAt (lookupIn (now (f .entry)) (now (starts .entry)) (now (ends .entry)) (now (tags .entry)) counts) (now (r .entry .text)) (r .entry .at) allow p (m .program) (m .answer) ⌝ }
+    p: Drawn,
+) -> Passed
+    requires { ⌜ Sound (now f) (now starts) (now ends) (now tags) counts × (r .at ≤ length (now (r .text))) × (772 ≤ length (now m)) ⌝ }
+    ensures { λ v. ⌜ ExpressionAt (lookupIn (now (f .entry)) (now (starts .entry)) (now (ends .entry)) (now (tags .entry)) counts) (now (r .entry .text)) (r .entry .at) allow (programIn (now (m .entry)) p) (programIn (now (m .exit)) (v .drawn)) (v .answer) ⌝ }
 {
-    expression(r.text, r.at, allow, f, starts, ends, tags, counts, p)
+    expression(m, r.text, r.at, allow, f, starts, ends, tags, counts, p)
 }
 
 // Reads an expression at the text's beginning. Its parameters are plain, so whoever calls it needs no reader.
 pub fn from_start<'a>(
+    m: &mut [u8],
     t: &'a [u8],
     allow: usize,
     f: &'a [u8],
@@ -50,12 +53,12 @@ pub fn from_start<'a>(
     ends: &'a [u16],
     tags: &'a [u8],
     counts: NameCounts,
-    p: Program,
-) -> Made
-    requires { ⌜ Sound (now f) (now starts) (now ends) (now tags) counts ⌝ }
-    ensures { λ m. ⌜ ExpressionAt (lookupIn (now (f .entry)) (now (starts .entry)) (now (ends .entry)) (now (tags .entry)) counts) (now (t .entry)) 0 allow p (m .program) (m .answer) ⌝ }
+    p: Drawn,
+) -> Passed
+    requires { ⌜ Sound (now f) (now starts) (now ends) (now tags) counts × (772 ≤ length (now m)) ⌝ }
+    ensures { λ v. ⌜ ExpressionAt (lookupIn (now (f .entry)) (now (starts .entry)) (now (ends .entry)) (now (tags .entry)) counts) (now (t .entry)) 0 allow (programIn (now (m .entry)) p) (programIn (now (m .exit)) (v .drawn)) (v .answer) ⌝ }
 {
-    expression_here(at_place(t, 0), allow, f, starts, ends, tags, counts, p)
+    expression_here(m, at_place(t, 0), allow, f, starts, ends, tags, counts, p)
 }
 
 // Whether a place is the text's end.
