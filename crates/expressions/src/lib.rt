@@ -14,6 +14,7 @@ use words::Passed;
 use words::Place;
 use words::ScopeRead;
 use words::ScopeText;
+use words::is_settled;
 use words::is_suffix;
 use words::peek;
 use words::program_of;
@@ -95,6 +96,13 @@ fn suffixes<'a>(
             ScopeRead::Scoped(x) => {
                 let name = x.name;
                 let cell = x.cell;
+                let missing = q.missing;
+                i = x.next;
+                // an expression may have thousands of suffixes
+                if is_settled(q.used, missing) {
+                    q = put(m, q, cell);
+                    continue;
+                }
                 q = put_name(
                     m,
                     f,
@@ -109,7 +117,6 @@ fn suffixes<'a>(
                     cell,
                     q,
                 );
-                i = x.next;
             }
         }
     }

@@ -1,14 +1,15 @@
 -- The cells in the slice, with what is known of them, are the program of the suffixes passed.
-use mathlib.Core.Path.{_≡_, refl, _∙_}
+use mathlib.Core.Path.{_≡_, refl, sym, _∙_}
 use Prim.Native.Nat.{_-_}
 use native.Mathlib.Omega.{arith}
 use lib.ListN.{length}
 use borrow.Author.Needs.{needs}
 use Rattle.names.specs.Entries.{lookupIn}
 use Rattle.words.specs.Contract.{suffixByte, ReadsSuffixes}
+use Rattle.words.specs.Drawn.{programIn}
+use Rattle.words.proofs.Programs.{settled-named}
 use Rattle.words.proofs.Words.{seen}
 use Rattle.expressions.proofs.SuffixWays.{xs-first, xs-end, xs-bad, xs-in, xs-past, xs-next}
-use Rattle.words.specs.Drawn.{programIn}
 use Rattle.expressions.proofs.suffixes.Statement.{statement}
 use Rattle.expressions.proofs.suffixes.Tie as tie
 
@@ -25,10 +26,10 @@ loop-holds c =
     (refl, xs-first _ _ _ _ (start .pre .1))
 
 peek-requires : tie.Need-peek-requires Inv-loop μ-loop
-peek-requires c κs = tt
+peek-requires c κs = search needs
 
 is-suffix-requires : tie.Need-is-suffix-requires Inv-loop μ-loop
-is-suffix-requires c κs = tt
+is-suffix-requires c κs = search needs
 
 suffix-requires : tie.Need-suffix-requires Inv-loop μ-loop
 suffix-requires c κs = seen suffixByte (c .before .before .peek .ensures) (c .before .is-suffix .ensures) (c .if1 .taken)
@@ -48,27 +49,53 @@ returns c =
 enum-known-x : tie.Need-enum-known-x Inv-loop μ-loop
 enum-known-x c = search needs
 
-put-name-requires : tie.Need-put-name-requires Inv-loop μ-loop
-put-name-requires c κs =
-    let c3 = c .before .before .before in
-    let c9 = c3 .before .before .before .before .before .before in
-    let start = c9 .before .before .before .before .before .before .before in
-    let g = xs-in _ _ _ _ _ _ (c9 .loop .inv .1) (c3 .x .given .1) (c3 .before .before .suffix .ensures) in
-    (start .pre .0, g .0, g .1, omega (arith, start .pre .2, c9 .loop .inv .0))
+is-settled-requires : tie.Need-is-settled-requires Inv-loop μ-loop
+is-settled-requires c κs = search needs
+
+put-requires : tie.Need-put-requires Inv-loop μ-loop
+put-requires c κs =
+    let c11 = c .before .before .before .before .before .before .before .before .before .before .before in
+    let start = c11 .before .before .before .before .before .before .before in
+    omega (arith, start .pre .2, c11 .loop .inv .0)
 
 loop-less : tie.Need-loop-less Inv-loop μ-loop
 loop-less c =
-    let c6 = c .before .before .before .before .before .before in
-    let c12 = c6 .before .before .before .before .before .before in
-    omega (arith, xs-past _ _ _ _ _ _ (c12 .loop .inv .1) (c6 .x .given .1) (c6 .before .before .suffix .ensures))
+    let c8 = c .before .before .before .before .before .before .before .before in
+    let c14 = c8 .before .before .before .before .before .before in
+    omega (arith, xs-past _ _ _ _ _ _ (c14 .loop .inv .1) (c8 .x .given .1) (c8 .before .before .suffix .ensures))
 
 loop-again : tie.Need-loop-again Inv-loop μ-loop
 loop-again c =
     let c2 = c .before .before in
-    let c6 = c2 .before .before .before .before in
-    let c12 = c6 .before .before .before .before .before .before in (
-      c2 .put-name .kept .0 ∙ c12 .loop .inv .0,
-      xs-next _ _ _ _ _ _ (c12 .loop .inv .1) (c6 .x .given .1) (c6 .before .before .suffix .ensures) _ (c2 .put-name .ensures),
+    let c5 = c2 .before .before .before in
+    let c8 = c5 .before .before .before in
+    let c14 = c8 .before .before .before .before .before .before in (
+      c2 .put .kept .0 ∙ c14 .loop .inv .0,
+      xs-next _ _ _ _ _ _ (c14 .loop .inv .1) (c8 .x .given .1) (c8 .before .before .suffix .ensures) _
+          (c2 .put .ensures ∙ settled-named _ _ _ _ _ _ (sym (c5 .is-settled .ensures) ∙ c2 .before .before .if2 .taken)),
+    )
+
+put-name-requires : tie.Need-put-name-requires Inv-loop μ-loop
+put-name-requires c κs =
+    let c5 = c .before .before .before .before .before in
+    let c11 = c5 .before .before .before .before .before .before in
+    let start = c11 .before .before .before .before .before .before .before in
+    let g = xs-in _ _ _ _ _ _ (c11 .loop .inv .1) (c5 .x .given .1) (c5 .before .before .suffix .ensures) in
+    (start .pre .0, g .0, g .1, omega (arith, start .pre .2, c11 .loop .inv .0))
+
+loop-less-2 : tie.Need-loop-less-2 Inv-loop μ-loop
+loop-less-2 c =
+    let c8 = c .before .before .before .before .before .before .before .before in
+    let c14 = c8 .before .before .before .before .before .before in
+    omega (arith, xs-past _ _ _ _ _ _ (c14 .loop .inv .1) (c8 .x .given .1) (c8 .before .before .suffix .ensures))
+
+loop-again-2 : tie.Need-loop-again-2 Inv-loop μ-loop
+loop-again-2 c =
+    let c2 = c .before .before in
+    let c8 = c2 .before .before .before .before .before .before in
+    let c14 = c8 .before .before .before .before .before .before in (
+      c2 .put-name .kept .0 ∙ c14 .loop .inv .0,
+      xs-next _ _ _ _ _ _ (c14 .loop .inv .1) (c8 .x .given .1) (c8 .before .before .suffix .ensures) _ (c2 .put-name .ensures),
     )
 
 same-length-2 : tie.Need-same-length-2 Inv-loop μ-loop
@@ -93,8 +120,12 @@ suffixes-spec =
     same-length
     returns
     enum-known-x
-    put-name-requires
+    is-settled-requires
+    put-requires
     loop-less
     loop-again
+    put-name-requires
+    loop-less-2
+    loop-again-2
     same-length-2
     returns-2)
