@@ -1,40 +1,31 @@
-// Composes a policy: the postfix program of its expression, run on the sets of answers in lent working memory.
+// Composes a policy: the tree of its expression, run by recursion over its nodes on sets of answers in lent working memory.
 ghost use mathlib.Core.Path.{_≡_};
 ghost use mathlib.Core.Bool.{cond};
-ghost use mathlib.Core.List.{List};
-ghost use Prim.Native.Nat.{_+_, _*_, _≤_, _<_};
+ghost use Prim.Native.Nat.{_*_, _≤_, _<_};
 ghost use lib.Dec.{eqb};
 ghost use lib.ListN.{length};
 ghost use Rattle.algebra.specs.Sort.{Sort};
 ghost use Rattle.algebra.specs.Order.{Ordered};
-ghost use Rattle.algebra.specs.Ran.{Ran};
-ghost use Rattle.algebra.specs.Program.{after};
-ghost use Rattle.algebra.specs.Policy.{Frame, Table, Policy, members, tableAnswer};
+ghost use Rattle.algebra.specs.Policy.{Frame, Policy, members};
 ghost use Rattle.algebra.specs.StoredFrame.{total, sizeOf, parentsOf, Stands};
 ghost use Rattle.algebra.specs.declared.Counts.{Counts};
 ghost use Rattle.sets.specs.Sets.{putSet, Room};
-ghost use Rattle.plans.specs.Stored.{Ready, Stored};
-ghost use Rattle.words.specs.Cells.{cellOf};
-ghost use Rattle.composer.specs.Compose.{TableIs, Fits, Sized, Composes, Composed, Listed};
-ghost use Rattle.composer.specs.Turn.{ClosedAt, Held, Steps, Stepped};
+ghost use Rattle.plans.specs.Stored.{rulesIn, Ready, Stored};
+ghost use Rattle.composer.specs.Compose.{Composes, Composed, Listed};
+ghost use Rattle.composer.specs.Run.{tableIn, ClosedAt, Sized, FewRounds, AllAnswered};
 use algebra::Counts;
-use algebra::StoredRule;
 use closure::closure;
 use grants::fill_here;
+use nodes::Cell;
+use nodes::cell_at;
+use nodes::part_start;
 use orders::fill_order;
 use scopes::StoredScope;
 use scopes::scope;
 use sets::combine;
 use sets::fill_away;
 use sets::replace;
-use words::Cell;
-use words::Program;
-
-fn wide(x: u8) -> usize
-    ensures { λ r. ⌜ (r ≡ x) × (r < 256) ⌝ }
-{
-    x as usize
-}
+use sets::wide;
 
 // How many accesses there are.
 pub fn accesses(n: Counts) -> usize
@@ -43,43 +34,44 @@ pub fn accesses(n: Counts) -> usize
     wide(n.subjects) * wide(n.objects) * wide(n.actions)
 }
 
-// ---- one step
+// What a run goes by besides its slices: how many rules there are, which tables are here, how many grants, members and accesses there are, and the limit.
+struct Setting {
+    many: usize,
+    here: [u8; 16],
+    grants: usize,
+    n: Counts,
+    size: usize,
+    limit: usize,
+}
+
+// ---- one node
 
 // Set k becomes that of a table, which is here where its flag is 1.
-fn put_table(w: &mut [u8], k: usize, size: usize, table: u8, here: [u8; 16], grants: usize)
-    requires { ⌜ Room k size (now w) × (table < 16) × (grants ≤ 4096) ⌝ }
-    ensures { λ _. ⌜ ((ts : List Table) → TableIs ts here grants (now (w .entry)) table → now (w .exit) ≡ putSet k size (tableAnswer ts table) (now (w .entry))) ⌝ }
+fn put_table(w: &mut [u8], k: usize, s: Setting, table: u8)
+    requires { ⌜ Room k (s .size) (now w) × (table < 16) × (s .grants ≤ 4096) ⌝ }
+    ensures { λ _. ⌜ now (w .exit) ≡ putSet k (s .size) (tableIn (s .here) (s .grants) (now (w .entry)) table) (now (w .entry)) ⌝ }
 {
     let i = wide(table);
-    if here[i] == 1 {
-        fill_here(w, k, size, table, grants);
+    if s.here[i] == 1 {
+        fill_here(w, k, s.size, table, s.grants);
     } else {
-        fill_away(w, k, size);
+        fill_away(w, k, s.size);
     }
 }
 
 // The closure of set k, and the rounds used.
-fn close_set(
-    w: &mut [u8],
-    k: usize,
-    t: &[u8],
-    rules: [StoredRule; 64],
-    many: usize,
-    n: Counts,
-    size: usize,
-    set: u8,
-    limit: usize,
-) -> usize
-    requires { ⌜ Room k size (now w) ⌝ }
-    requires { ⌜ Ready n size (length (now t)) rules many ⌝ }
-    ensures { λ r. ⌜ (r ≤ limit) × ((fr : Frame) → Stored fr n (now (t .entry)) rules many → ClosedAt fr set limit k (now (w .entry)) r (now (w .exit))) ⌝ }
+fn close_set(w: &mut [u8], k: usize, t: &[u8], rules: &[u8], s: Setting, set: u8) -> usize
+    requires { ⌜ Room k (s .size) (now w) × (length (now rules) ≡ 1728) ⌝ }
+    requires { ⌜ Ready (s .n) (s .size) (length (now t)) (rulesIn (now rules)) (s .many) ⌝ }
+    ensures { λ r. ⌜ (r ≤ s .limit) × ((fr : Frame) → Stored fr (s .n) (now (t .entry)) (rulesIn (now (rules .entry))) (s .many)
+        → ClosedAt fr set (s .limit) k (now (w .entry)) r (now (w .exit))) ⌝ }
 {
     let at = k * 4096;
-    let e = at + size;
-    closure(&mut w[at..e], t, rules, many, n, set, limit)
+    let e = at + s.size;
+    closure(&mut w[at..e], t, rules, s.many, s.n, set, s.limit)
 }
 
-// The scope of a cell.
+// The scope of a node.
 fn scope_of(c: Cell) -> StoredScope
     ensures { λ r. ⌜ (r .kind ≡ cond (eqb (c .kind) 6) 6 (c .op)) × (r .sort ≡ c .sort) × (r .x ≡ c .number) ⌝ }
 {
@@ -91,90 +83,77 @@ fn scope_of(c: Cell) -> StoredScope
     }
 }
 
-// One step on the stack, which has `height` sets. The result is the rounds used.
-fn step(
-    w: &mut [u8],
-    t: &[u8],
-    c: Cell,
-    height: usize,
-    size: usize,
-    here: [u8; 16],
-    grants: usize,
-    rules: [StoredRule; 64],
-    many: usize,
-    n: Counts,
-    limit: usize,
-) -> usize
-    requires { ⌜ (65536 ≤ length (now w)) × (grants ≤ 4096) ⌝ }
-    requires { ⌜ Ready n size (length (now t)) rules many ⌝ }
-    requires { ⌜ Fits n c × Held c height ⌝ }
-    ensures { λ r. ⌜ (r ≤ limit) × ((P : Policy) (st : List Ran) → Steps P n (now (w .entry)) (now (t .entry)) c here grants rules many limit height st → Stepped P c st (now (w .entry)) r (now (w .exit))) ⌝ }
+// ---- a tree
+
+// The answers of the tree whose last node stands before `end` come to set k. The result is the sum of the rounds. Its own node is that last one, and the
+// parts stand before it, each ending where the next begins; a part's answers come to a set above those of the parts run before it.
+fn run(w: &mut [u8], m: &[u8], end: usize, k: usize, t: &[u8], rules: &[u8], s: Setting) -> usize
+    requires { ⌜ Sized (s .n) (now m) end k ⌝ }
+    requires { ⌜ (65536 ≤ length (now w)) × (length (now rules) ≡ 1728) × (s .grants ≤ 4096) × (s .limit ≤ 4096) ⌝ }
+    requires { ⌜ Ready (s .n) (s .size) (length (now t)) (rulesIn (now rules)) (s .many) ⌝ }
+    ensures { λ r. ⌜ FewRounds (now (m .entry)) end r ⌝ }
+    ensures { λ r. ⌜ ((fr : Frame) → Stored fr (s .n) (now (t .entry)) (rulesIn (now (rules .entry))) (s .many)
+        → AllAnswered fr (now (m .entry)) end k s (now (w .entry)) r (now (w .exit))) ⌝ }
 {
+    let own = end - 1;
+    let c = cell_at(m, own);
     if c.kind == 0 {
-        put_table(w, height, size, c.number, here, grants);
+        put_table(w, k, s, c.number);
         return 0;
     }
     if c.kind < 4 {
-        combine(w, height - 2, size, c.kind - 1);
-        return 0;
+        let mid = part_start(m, own);
+        let a = run(w, m, mid, k, t, rules, s);
+        let b = run(w, m, own, k + 1, t, rules, s);
+        combine(w, k, s.size, c.kind - 1);
+        return a + b;
     }
     if c.kind == 4 {
-        replace(w, height - 3, size);
-        return 0;
+        let third = part_start(m, own);
+        let second = part_start(m, third);
+        let a = run(w, m, second, k, t, rules, s);
+        let b = run(w, m, third, k + 1, t, rules, s);
+        let d = run(w, m, own, k + 2, t, rules, s);
+        replace(w, k, s.size);
+        return a + b + d;
     }
+    let a = run(w, m, own, k, t, rules, s);
     if c.kind < 7 {
-        let s = scope_of(c);
-        scope(w, height - 1, t, n, s);
-        return 0;
+        scope(w, k, t, s.n, scope_of(c));
+        return a;
     }
-    close_set(w, height - 1, t, rules, many, n, size, c.number, limit)
+    let used = close_set(w, k, t, rules, s, c.number);
+    a + used
 }
 
-// How many sets are on the stack after a step.
-fn height_after(c: Cell, height: usize) -> usize
-    requires { ⌜ Held c height ⌝ }
-    ensures { λ r. ⌜ r ≡ after height (cellOf c) ⌝ }
-{
-    if c.kind == 0 {
-        return height + 1;
-    }
-    if c.kind < 4 {
-        return height - 1;
-    }
-    if c.kind == 4 {
-        return height - 2;
-    }
-    height
-}
-
-// ---- the whole program
-
-// Runs the program on the stack of sets, and returns the sum of the rounds. The policy's answers are then in the first set.
-pub fn run(
+// Composes a policy, whose expression is the first `used` nodes: its answers are then in the first set. The result is the sum of the rounds.
+pub fn compose(
     w: &mut [u8],
+    m: &[u8],
+    used: usize,
     t: &[u8],
-    p: Program,
+    rules: &[u8],
+    many: usize,
     here: [u8; 16],
     grants: usize,
-    rules: [StoredRule; 64],
-    many: usize,
     n: Counts,
     limit: usize,
 ) -> usize
-    requires { ⌜ Sized n (length (now w)) (length (now t)) p grants rules many limit ⌝ }
-    ensures { λ r. ⌜ ((P : Policy) → Composes P n (now (w .entry)) (now (t .entry)) p here grants rules many limit → Composed P (now (w .entry)) r (now (w .exit))) ⌝ }
+    requires { ⌜ Sized n (now m) used 0 ⌝ }
+    requires { ⌜ (65536 ≤ length (now w)) × (length (now rules) ≡ 1728) × (grants ≤ 4096) × (limit ≤ 4096) ⌝ }
+    requires { ⌜ Ready n (total n) (length (now t)) (rulesIn (now rules)) many ⌝ }
+    ensures { λ r. ⌜ ((P : Policy) → Composes P n (now (w .entry)) (now (t .entry)) (now (m .entry)) used here grants (rulesIn (now (rules .entry))) many limit
+        → Composed P (now (w .entry)) r (now (w .exit))) ⌝ }
 {
-    let size = accesses(n);
-    let used = p.used;
-    let mut height = 0;
-    let mut rounds = 0;
-    for j in 0..used {
-        let c = p.cells[j];
-        let r = step(w, t, c, height, size, here, grants, rules, many, n, limit);
-        rounds += r;
-        height = height_after(c, height);
-    }
-    rounds
+    let s = Setting {
+        many,
+        here,
+        grants,
+        n,
+        size: accesses(n),
+        limit,
+    };
+    run(w, m, used, 0, t, rules, s)
 }
 
 // ---- the tables
@@ -184,7 +163,8 @@ pub fn tables(t: &mut [u8], subjects: &[u8], objects: &[u8], actions: &[u8], mar
     requires { ⌜ (length (now t) ≡ 16384) × (length (now marks) ≡ 1024) ⌝ }
     requires { ⌜ (length (now subjects) ≤ 64) × (length (now objects) ≤ 64) × (length (now actions) ≤ 64) ⌝ }
     requires { ⌜ Ordered (parentsOf (now subjects)) × Ordered (parentsOf (now objects)) × Ordered (parentsOf (now actions)) ⌝ }
-    ensures { λ _. ⌜ ((fr : Frame) (n : Counts) → Listed fr (now (subjects .entry)) (now (objects .entry)) (now (actions .entry)) (now (marks .entry)) → ((σ : Sort) → members fr σ ≡ sizeOf n σ) → Stands fr n (now (t .exit))) ⌝ }
+    ensures { λ _. ⌜ ((fr : Frame) (n : Counts) → Listed fr (now (subjects .entry)) (now (objects .entry)) (now (actions .entry)) (now (marks .entry))
+        → ((σ : Sort) → members fr σ ≡ sizeOf n σ) → Stands fr n (now (t .exit))) ⌝ }
 {
     fill_order(t, 0, subjects);
     fill_order(t, 1, objects);

@@ -7,6 +7,7 @@ use native.Mathlib.Omega.{arith}
 use lib.ListN.{length, take}
 use lib.Dec.{leb}
 use borrow.Author.Tests.{le-leb, lt-leb}
+use Rattle.names.specs.Entries.{countsOf}
 use Rattle.algebra.specs.Bytes.{cleared, written, tally}
 use Rattle.algebra.specs.Policy.{accesses}
 use Rattle.algebra.specs.StoredFrame.{total}
@@ -14,7 +15,7 @@ use Rattle.composer.specs.Compose as Compose
 use Rattle.reader.specs.File.{refused, accepted, readFile}
 use Rattle.reading.specs.Reading.{ReadGood}
 use Rattle.reading.specs.declared.Reading.{Reading}
-use Rattle.running.specs.Runs.{grantsPart, countsOf}
+use Rattle.running.specs.Runs.{grantsPart}
 use Rattle.engine.specs.Calls as Calls
 use Rattle.engine.specs.Calls.{compose, composed, composition, unchanged}
 use Rattle.composing.specs.Composition.{composedOf, refusal}

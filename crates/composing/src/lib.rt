@@ -1,6 +1,6 @@
 // Compose within buffers that are large enough.
 use composer::accesses;
-use running::counts_of;
+use names::counts_of;
 use running::read_within;
 use running::run_policy;
 use sets::copy;

@@ -1,4 +1,4 @@
--- The ways through the code, and in Emits what the program of a reading says.
+-- The ways through the code, and in Emits what the nodes of a reading say.
 mod SuffixWays
 mod ReaderWays
 pub mod Emits

@@ -11,17 +11,19 @@ use lib.Seq.{slice, length-slice}
 use borrow.Author.Tests.{eq-eqb, ne-eqb, eqb-true}
 use Rattle.algebra.specs.Sort.{Sort, subject, object, action}
 use Rattle.grammar.specs.Name.{isLetter, sortWord}
-use Rattle.grammar.specs.Expression.{Joiner, plus-sign, and-sign, minus-sign, Exp, Fac, plain, table-name, bracket, override, byteJ, textE, textF, textP}
+use Rattle.algebra.specs.Answer.{Joiner, plus-sign, and-sign, minus-sign}
+use Rattle.grammar.specs.Expression.{Exp, Fac, plain, table-name, bracket, override, byteJ, textE, textF, textP}
 use Rattle.grammar.specs.Machine.{Left, start, after, join, Frame, open-bracket, open-first, open-second, open-third, at-table, State, need, naming, have}
 use Rattle.grammar.specs.Machine.{closed, parted, delimited, joined, onward, last, named, named-end, finish, grows, step, run}
 use Rattle.grammar.specs.Names.{Kind, table}
 use Rattle.names.specs.Entries.{sortNumber}
-use Rattle.words.specs.Cells.{cell, signNumber, stored, emitName, emitE, emitF}
+use Rattle.nodes.specs.Cells.{cell}
+use Rattle.words.specs.Cells.{signNumber, stored, emitName, emitE, emitF}
 use Rattle.words.specs.Contract.{sortCode, signCode, suffixByte, Word, Starts, SuffixesAt, Stuck, PrimaryAt, FactorAt, ReadsMore, MoreAt, ReadsExpression}
 use Rattle.words.specs.Contract.{ExpressionAt, Awaits, StuckPart, PartAt, OverrideAt}
 use Rattle.words.specs.declared.Parsed.{Parsed}
 use Rattle.words.specs.declared.Parsed.the-variants.{Good, Bad}
-use Rattle.words.specs.declared.Program.{Program}
+use Rattle.words.specs.declared.Nodes.{Nodes}
 use Rattle.grammar.proofs.Name.{word-of-sort}
 use Rattle.grammar.proofs.Machine.{is-in, run-go, run-none, run-byte, next-byte, settle-table, one-less, opens, full}
 use Rattle.grammar.proofs.Complete.{joiner-step}
@@ -92,8 +94,8 @@ module _ (l : Left) (ks : List Frame) where
 
 module _ (number : Kind → List ℕ → Option ℕ) (t : List ℕ) where
   -- ---- a part of a bracket
-  module _ (at a : ℕ) (p q : Program) where
-    pub g-bad : (c : ℕ) (p′ : Program) {n : ℕ} {r : Parsed} → r ≡ Bad n → ExpressionAt number t at a p q r → PartAt number t at a c p p′ (Bad n)
+  module _ (at a : ℕ) (p q : Nodes) where
+    pub g-bad : (c : ℕ) (p′ : Nodes) {n : ℕ} {r : Parsed} → r ≡ Bad n → ExpressionAt number t at a p q r → PartAt number t at a c p p′ (Bad n)
     unfolding ExpressionAt PartAt
     g-bad c p′ e x = let s = subst (ExpressionAt number t at a p q) e x in record { within = s .within; stops = λ ks w. s .stops ks }
 
@@ -105,7 +107,7 @@ module _ (number : Kind → List ℕ → Option ℕ) (t : List ℕ) where
     unfolding PartAt
     g-good e x h = (the-expression e x, h)
 
-    pub g-open : (p′ : Program) {c n : ℕ} {r : Parsed} → r ≡ Good n → ExpressionAt number t at a p q r → (getD t n 0 ≡ c → ⊥)
+    pub g-open : (p′ : Nodes) {c n : ℕ} {r : Parsed} → r ≡ Good n → ExpressionAt number t at a p q r → (getD t n 0 ≡ c → ⊥)
         → PartAt number t at a c p p′ (Bad n)
     unfolding PartAt step finish
     g-open p′ {c} {n} e x h =
@@ -144,12 +146,12 @@ module _ (number : Kind → List ℕ → Option ℕ) (t : List ℕ) where
     part-step {c} {n} e x ks s h y = let g = the-part e x in g .0 .reads ks ∙ run-byte t n c _ s (g .1) h y
 
   -- ---- the three parts of an override
-  module _ (at a : ℕ) (p p′ q : Program) where
+  module _ (at a : ℕ) (p p′ q : Nodes) where
     pub h-first : {n : ℕ} {r : Parsed} → r ≡ Bad n → PartAt number t at a 44 p q r → OverrideAt number t at a p p′ (Bad n)
     unfolding OverrideAt
     h-first e x = let s = the-stuck at a p q e x in record { within = s .within; stops = λ ks l. s .stops (open-first l ∷ ks) (first-awaits l ks) }
 
-    module _ {i : ℕ} {r : Parsed} (e : r ≡ Good i) (x : PartAt number t at a 44 p q r) (q₂ : Program) where
+    module _ {i : ℕ} {r : Parsed} (e : r ≡ Good i) (x : PartAt number t at a 44 p q r) (q₂ : Nodes) where
       one-read : (ks : List Frame) (l : Left)
           → run (drop at t) (need a (open-first l ∷ ks) start) ≡ run (drop (i + 1) t) (need a (open-second l (the-exp at a p q 44 e x) ∷ ks) start)
       unfolding step onward joined delimited parted the-exp
@@ -159,7 +161,7 @@ module _ (number : Kind → List ℕ → Option ℕ) (t : List ℕ) where
       unfolding OverrideAt
       h-second e₂ y = let s = the-stuck (i + 1) a q q₂ e₂ y in record { within = s .within; stops = λ ks l. one-read ks l ∙ s .stops _ (second-awaits l ks _) }
 
-      module _ {j : ℕ} {r₂ : Parsed} (e₂ : r₂ ≡ Good j) (y : PartAt number t (i + 1) a 44 q q₂ r₂) (q₃ : Program) where
+      module _ {j : ℕ} {r₂ : Parsed} (e₂ : r₂ ≡ Good j) (y : PartAt number t (i + 1) a 44 q q₂ r₂) (q₃ : Nodes) where
         two-read : (ks : List Frame) (l : Left) → run (drop at t) (need a (open-first l ∷ ks) start)
             ≡ run (drop (j + 1) t) (need a (open-third l (the-exp at a p q 44 e x) (the-exp (i + 1) a q q₂ 44 e₂ y) ∷ ks) start)
         unfolding step onward joined delimited parted the-exp
@@ -195,11 +197,11 @@ module _ (number : Kind → List ℕ → Option ℕ) (t : List ℕ) where
               let u₂ : q₂ ≡ emitE number (the-exp (i + 1) a q q₂ 44 e₂ y) (k + 2 + length (textE (the-exp at a p q 44 e x)) + 1)
               (emitE number (the-exp at a p q 44 e x) (k + 2) p) =
               m₂ ∙ ap (λ (v : ℕ). emitE number (the-exp (i + 1) a q q₂ 44 e₂ y) v q) a₁
-              ∙ ap (λ (v : Program). emitE number (the-exp (i + 1) a q q₂ 44 e₂ y) (k + 2 + length (textE (the-exp at a p q 44 e x)) + 1) v) u₁ in
+              ∙ ap (λ (v : Nodes). emitE number (the-exp (i + 1) a q q₂ 44 e₂ y) (k + 2 + length (textE (the-exp at a p q 44 e x)) + 1) v) u₁ in
               let u₃ = m₃ ∙ ap (λ (v : ℕ). emitE number (the-exp (j + 1) a q₂ q₃ 41 e₃ z) v q₂) a₂
-              ∙ ap (λ (v : Program). emitE number (the-exp (j + 1) a q₂ q₃ 41 e₃ z)
+              ∙ ap (λ (v : Nodes). emitE number (the-exp (j + 1) a q₂ q₃ 41 e₃ z)
               (k + 2 + length (textE (the-exp at a p q 44 e x)) + 1 + length (textE (the-exp (i + 1) a q q₂ 44 e₂ y)) + 1) v) u₂ in
-              w ∙ ap (λ (v : Program). stored v (cell 4 0 0 0)) u₃
+              w ∙ ap (λ (v : Nodes). stored v (cell 4 0 0 0)) u₃
 
           pub h-good : p′ ≡ stored q₃ (cell 4 0 0 0) → OverrideAt number t at a p p′ (Good (n + 1))
           unfolding OverrideAt step onward joined delimited closed the-exp textP E₁ E₂ E₃
@@ -227,7 +229,7 @@ module _ (number : Kind → List ℕ → Option ℕ) (t : List ℕ) where
               }
 
   -- ---- primaries
-  module _ (at a : ℕ) (p p′ : Program) where
+  module _ (at a : ℕ) (p p′ : Nodes) where
     pub p-full : getD t at 0 ≡ 40 → a ≡ 0 → PrimaryAt number t at a p p′ (Bad at)
     unfolding PrimaryAt step isLetter finish
     p-full e z =
@@ -244,7 +246,7 @@ module _ (number : Kind → List ℕ → Option ℕ) (t : List ℕ) where
       unfolding step isLetter
       inside ks l = run-byte t at 40 (need a ks l) _ e (omega arith) (opens a ne ks (open-bracket l))
 
-      pub p-bad : (q : Program) {n : ℕ} {r : Parsed} → r ≡ Bad n → PartAt number t (at + 1) (a - 1) 41 p q r → PrimaryAt number t at a p p′ (Bad n)
+      pub p-bad : (q : Nodes) {n : ℕ} {r : Parsed} → r ≡ Bad n → PartAt number t (at + 1) (a - 1) 41 p q r → PrimaryAt number t at a p p′ (Bad n)
       unfolding PrimaryAt
       p-bad q y x = let s = the-stuck (at + 1) (a - 1) p q y x in record { within = s .within; stops = λ ks l. inside ks l ∙ s .stops _ (bracket-awaits l ks) }
 
@@ -359,8 +361,8 @@ module _ (number : Kind → List ℕ → Option ℕ) (t : List ℕ) where
             p-override (Bad n) c = record { within = c .within; stops = λ ks l. to-override ks l ∙ c .stops ks l }
 
   -- ---- factors
-  module _ (at a : ℕ) (p q : Program) where
-    pub f-bad : (p′ : Program) {n : ℕ} {r : Parsed} → r ≡ Bad n → PrimaryAt number t at a p q r → FactorAt number t at a p p′ (Bad n)
+  module _ (at a : ℕ) (p q : Nodes) where
+    pub f-bad : (p′ : Nodes) {n : ℕ} {r : Parsed} → r ≡ Bad n → PrimaryAt number t at a p q r → FactorAt number t at a p p′ (Bad n)
     unfolding PrimaryAt FactorAt
     f-bad p′ e x = subst (PrimaryAt number t at a p q) e x
 
@@ -368,7 +370,7 @@ module _ (number : Kind → List ℕ → Option ℕ) (t : List ℕ) where
     unfolding PrimaryAt
     f-in e x = subst (PrimaryAt number t at a p q) e x .1 .within
 
-    pub f-join : (p′ : Program) {n : ℕ} {r : Parsed} → r ≡ Good n → PrimaryAt number t at a p q r → (r′ : Parsed) → SuffixesAt number t n q p′ r′
+    pub f-join : (p′ : Nodes) {n : ℕ} {r : Parsed} → r ≡ Good n → PrimaryAt number t at a p q r → (r′ : Parsed) → SuffixesAt number t n q p′ r′
         → FactorAt number t at a p p′ r′
     unfolding PrimaryAt FactorAt SuffixesAt
     f-join p′ {n} e x (Good m) y =
@@ -390,7 +392,7 @@ module _ (number : Kind → List ℕ → Option ℕ) (t : List ℕ) where
         record { within = y .within; stops = λ ks l. c .1 .reads ks l ∙ y .stops a ks l (plain (c .0)) }
 
   -- ---- signs and factors
-  module _ (at a : ℕ) (p : Program) where
+  module _ (at a : ℕ) (p : Nodes) where
     pub m-first : at ≤ length t → ReadsMore number t at a at p p
     m-first h =
         record {
@@ -404,7 +406,7 @@ module _ (number : Kind → List ℕ → Option ℕ) (t : List ℕ) where
           reads = λ ks l f. refl;
         }
 
-    module _ (i : ℕ) (q : Program) (x : ReadsMore number t at a i p q) where
+    module _ (i : ℕ) (q : Nodes) (x : ReadsMore number t at a i p q) where
       pub m-end : signCode (getD t i 0) ≡ 0 → MoreAt number t at a p q (Good i)
       unfolding MoreAt
       m-end e = (x, e)
@@ -424,15 +426,15 @@ module _ (number : Kind → List ℕ → Option ℕ) (t : List ℕ) where
         signed ks l f = x .reads ks l f
             ∙ run-byte t i (byteJ (the-sign .0)) _ _ (the-sign .1) (pos-sign (the-sign .0)) (joiner-step (the-sign .0) a ks (x .left l f) (x .end l f))
 
-        pub m-bad : (p′ g : Program) {n : ℕ} {r : Parsed} → r ≡ Bad n → FactorAt number t (i + 1) a q g r → MoreAt number t at a p p′ (Bad n)
+        pub m-bad : (p′ g : Nodes) {n : ℕ} {r : Parsed} → r ≡ Bad n → FactorAt number t (i + 1) a q g r → MoreAt number t at a p p′ (Bad n)
         unfolding FactorAt MoreAt
         m-bad p′ g e z = let s = subst (FactorAt number t (i + 1) a q g) e z in record { within = s .within; stops = λ ks l f. signed ks l f ∙ s .stops ks _ }
 
-        pub m-past : (g : Program) {n : ℕ} {r : Parsed} → r ≡ Good n → FactorAt number t (i + 1) a q g r → (i < n) × (n ≤ length t)
+        pub m-past : (g : Nodes) {n : ℕ} {r : Parsed} → r ≡ Good n → FactorAt number t (i + 1) a q g r → (i < n) × (n ≤ length t)
         unfolding FactorAt
         m-past g e z = let s = subst (FactorAt number t (i + 1) a q g) e z .1 in (omega (arith, s .past), s .within)
 
-        pub m-next : (g q′ : Program) {n : ℕ} {r : Parsed} → r ≡ Good n → FactorAt number t (i + 1) a q g r → q′ ≡ stored g (cell k 0 0 0)
+        pub m-next : (g q′ : Nodes) {n : ℕ} {r : Parsed} → r ≡ Good n → FactorAt number t (i + 1) a q g r → q′ ≡ stored g (cell k 0 0 0)
             → ReadsMore number t at a n p q′
         unfolding FactorAt join textE emitE
         m-next g q′ {n} e z v =
@@ -450,15 +452,15 @@ module _ (number : Kind → List ℕ → Option ℕ) (t : List ℕ) where
                   let m = x .emits l f h u d o in
                   let c : i + 1 ≡ h + length (textE (join (x .left l f) (x .end l f))) + 1 = omega (arith, x .spans l f) in
                   v ∙ ap (λ (k′ : ℕ). stored g (cell k′ 0 0 0)) code
-                  ∙ ap (λ (g′ : Program). stored g′ (cell (signNumber j) 0 0 0))
-                  (s .1 .emits ∙ ap (λ (q₁ : Program). emitF number (s .0) (i + 1) q₁) m
+                  ∙ ap (λ (g′ : Nodes). stored g′ (cell (signNumber j) 0 0 0))
+                  (s .1 .emits ∙ ap (λ (q₁ : Nodes). emitF number (s .0) (i + 1) q₁) m
                   ∙ ap (λ (i′ : ℕ). emitF number (s .0) i′ (emitE number (join (x .left l f) (x .end l f)) h u)) c);
               reads = λ ks l f. signed ks l f ∙ s .1 .reads ks _;
             }
 
   -- ---- expressions
-  module _ (at a : ℕ) (p q : Program) where
-    pub e-bad : (p′ : Program) {n : ℕ} {r : Parsed} → r ≡ Bad n → FactorAt number t at a p q r → ExpressionAt number t at a p p′ (Bad n)
+  module _ (at a : ℕ) (p q : Nodes) where
+    pub e-bad : (p′ : Nodes) {n : ℕ} {r : Parsed} → r ≡ Bad n → FactorAt number t at a p q r → ExpressionAt number t at a p p′ (Bad n)
     unfolding FactorAt ExpressionAt
     e-bad p′ e x = let s = subst (FactorAt number t at a p q) e x in record { within = s .within; stops = λ ks. s .stops ks start }
 
@@ -466,7 +468,7 @@ module _ (number : Kind → List ℕ → Option ℕ) (t : List ℕ) where
     unfolding FactorAt
     e-in e x = subst (FactorAt number t at a p q) e x .1 .within
 
-    pub e-join : (p′ : Program) {n : ℕ} {r : Parsed} → r ≡ Good n → FactorAt number t at a p q r → (r′ : Parsed) → MoreAt number t n a q p′ r′
+    pub e-join : (p′ : Nodes) {n : ℕ} {r : Parsed} → r ≡ Good n → FactorAt number t at a p q r → (r′ : Parsed) → MoreAt number t n a q p′ r′
         → ExpressionAt number t at a p p′ r′
     unfolding FactorAt MoreAt ExpressionAt join textE emitE
     e-join p′ {n} e x (Good m) y =

@@ -12,7 +12,8 @@ use Rattle.grammar.specs.Expression.{Fac, scoped, closed-by, textS, textF}
 use Rattle.grammar.specs.Machine.{Left, Frame, at-ruleset, at-scope, begin, have, caret, onward, named, named-end, finish, grows, step, run}
 use Rattle.grammar.specs.Names.{Kind}
 use Rattle.names.specs.Entries.{kindOf}
-use Rattle.words.specs.Cells.{cell, emitName, emitS, emitF}
+use Rattle.nodes.specs.Cells.{cell}
+use Rattle.words.specs.Cells.{emitName, emitS, emitF}
 use Rattle.words.specs.Contract.{suffixByte, Starts, Strict, Name, ScopeAt, ReadsSuffixes, SuffixAt, SuffixesAt}
 use Rattle.words.specs.declared.Parsed.{Parsed}
 use Rattle.words.specs.declared.Parsed.the-variants.{Good, Bad}
@@ -20,7 +21,7 @@ use Rattle.names.specs.declared.NameKind.the-variants.{RuleSet}
 use Rattle.words.specs.declared.ScopeText.{ScopeText}
 use Rattle.words.specs.declared.ScopeRead.{ScopeRead}
 use Rattle.words.specs.declared.ScopeRead.the-variants.{Scoped, NoScope}
-use Rattle.words.specs.declared.Program.{Program}
+use Rattle.words.specs.declared.Nodes.{Nodes}
 use Rattle.grammar.proofs.Machine.{in-text, is-in, run-none, run-byte, next-byte, settle-ruleset}
 
 strict-ruleset : (l : Left) (f : Fac) → Strict (at-ruleset l f)
@@ -111,24 +112,24 @@ module _ (t : List ℕ) (at : ℕ) where
                   past = omega (arith, s .past);
                   within = s .within;
                   spans = λ f. omega (arith, n, length-append (textF f) (94 ∷ 91 ∷ (textS (s .tree) ++ (93 ∷ []))), length-append (textS (s .tree)) (93 ∷ []));
-                  emits = λ f i u h w. s .emits number p ∙ ap (λ (v : Program). emitS number (s .tree) (at + 1 + 1) v) w
+                  emits = λ f i u h w. s .emits number p ∙ ap (λ (v : Nodes). emitS number (s .tree) (at + 1 + 1) v) w
                       ∙ ap (λ (j : ℕ). emitS number (s .tree) j (emitF number f i u)) (omega arith);
                   reads = λ a ks l f. to-scope a ks l f ∙ s .reads a ks l f;
                 },
           )
 
 -- ---- suffixes one after another
-module _ (number : Kind → List ℕ → Option ℕ) (t : List ℕ) (at : ℕ) (p : Program) where
+module _ (number : Kind → List ℕ → Option ℕ) (t : List ℕ) (at : ℕ) (p : Nodes) where
   pub xs-first : at ≤ length t → ReadsSuffixes number t at at p p
   xs-first h =
       record { with = λ f. f; past = omega arith; within = h; spans = λ f. refl; emits = λ f i u e w. w; reads = λ a ks l f. refl }
 
-  module _ (i : ℕ) (q : Program) (x : ReadsSuffixes number t at i p q) where
+  module _ (i : ℕ) (q : Nodes) (x : ReadsSuffixes number t at i p q) where
     pub xs-end : suffixByte (getD t i 0) ≡ false → SuffixesAt number t at p q (Good i)
     unfolding SuffixesAt
     xs-end e = (x, e)
 
-    pub xs-bad : (p′ : Program) {n : ℕ} {r : ScopeRead} → r ≡ NoScope n → SuffixAt t i r → SuffixesAt number t at p p′ (Bad n)
+    pub xs-bad : (p′ : Nodes) {n : ℕ} {r : ScopeRead} → r ≡ NoScope n → SuffixAt t i r → SuffixesAt number t at p p′ (Bad n)
     unfolding SuffixAt SuffixesAt
     xs-bad p′ e y =
         let s = subst (SuffixAt t i) e y in
@@ -146,7 +147,7 @@ module _ (number : Kind → List ℕ → Option ℕ) (t : List ℕ) (at : ℕ) (
       unfolding SuffixAt
       xs-past = (the-suffix .2, the-suffix .3 number q .within)
 
-      pub xs-next : (q′ : Program) → q′ ≡ emitName number (kindOf (y .name)) (slice (y .from) (y .to) t) (y .from) (y .cell) q
+      pub xs-next : (q′ : Nodes) → q′ ≡ emitName number (kindOf (y .name)) (slice (y .from) (y .to) t) (y .from) (y .cell) q
           → ReadsSuffixes number t at (y .next) p q′
       unfolding SuffixAt
       xs-next q′ g =

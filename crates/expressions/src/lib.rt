@@ -1,14 +1,15 @@
-// Reading an expression: it is read, its names are looked up, and the postfix program of its tree is made; or the place of its first wrong byte. While it is
-// read, the cells of the program stand in one slice, which each function lends on, so that an open bracket costs little room.
+// Reading an expression: it is read, its names are looked up, and the nodes of its tree are made; or the place of its first wrong byte. While it is
+// read, the cells of the nodes stand in one slice, which each function lends on, so that an open bracket costs little room.
 mod text_reader;
 
 use names::NameCounts;
 use names::NameKind;
+use nodes::Cell;
 use text_reader::ends_at;
 use text_reader::from_start;
-use words::Cell;
 use words::Drawn;
 use words::Made;
+use words::Nodes;
 use words::Parsed;
 use words::Passed;
 use words::Place;
@@ -17,7 +18,6 @@ use words::ScopeText;
 use words::is_settled;
 use words::is_suffix;
 use words::peek;
-use words::program_of;
 use words::put;
 use words::put_name;
 use words::read_name;
@@ -30,7 +30,7 @@ ghost use mathlib.Core.Bool.{true};
 ghost use Prim.Native.Nat.{_≤_};
 ghost use lib.ListN.{length, getD};
 ghost use Rattle.words.specs.Contract.{suffixByte, SuffixAt, SuffixesAt, PrimaryAt, FactorAt, MoreAt, ExpressionAt, PartAt, OverrideAt, Answer};
-ghost use Rattle.words.specs.Drawn.{programIn};
+ghost use Rattle.words.specs.Cells.{nodesIn};
 ghost use Rattle.names.specs.Entries.{Sound, lookupIn};
 
 // ---- the parts of an expression. Each is lent the cells so far, in the slice m, and takes what is known of them, and how many brackets more may be opened.
@@ -81,7 +81,7 @@ fn suffixes<'a>(
     p: Drawn,
 ) -> Passed
     requires { ⌜ Sound (now f) (now starts) (now ends) (now tags) counts × (at ≤ length (now t)) × (772 ≤ length (now m)) ⌝ }
-    ensures { λ r. ⌜ SuffixesAt (lookupIn (now (f .entry)) (now (starts .entry)) (now (ends .entry)) (now (tags .entry)) counts) (now (t .entry)) at (programIn (now (m .entry)) p) (programIn (now (m .exit)) (r .drawn)) (r .answer) ⌝ }
+    ensures { λ r. ⌜ SuffixesAt (lookupIn (now (f .entry)) (now (starts .entry)) (now (ends .entry)) (now (tags .entry)) counts) (now (t .entry)) at (nodesIn (now (m .entry)) p) (nodesIn (now (m .exit)) (r .drawn)) (r .answer) ⌝ }
 {
     let mut q = p;
     let mut i = at;
@@ -139,7 +139,7 @@ fn primary<'a>(
     p: Drawn,
 ) -> Passed
     requires { ⌜ Sound (now f) (now starts) (now ends) (now tags) counts × (at ≤ length (now t)) × (772 ≤ length (now m)) ⌝ }
-    ensures { λ r. ⌜ PrimaryAt (lookupIn (now (f .entry)) (now (starts .entry)) (now (ends .entry)) (now (tags .entry)) counts) (now (t .entry)) at allow (programIn (now (m .entry)) p) (programIn (now (m .exit)) (r .drawn)) (r .answer) ⌝ }
+    ensures { λ r. ⌜ PrimaryAt (lookupIn (now (f .entry)) (now (starts .entry)) (now (ends .entry)) (now (tags .entry)) counts) (now (t .entry)) at allow (nodesIn (now (m .entry)) p) (nodesIn (now (m .exit)) (r .drawn)) (r .answer) ⌝ }
 {
     if peek(t, at) == b'(' {
         if allow == 0 {
@@ -248,7 +248,7 @@ fn overridden<'a>(
     p: Drawn,
 ) -> Passed
     requires { ⌜ Sound (now f) (now starts) (now ends) (now tags) counts × (at ≤ length (now t)) × (772 ≤ length (now m)) ⌝ }
-    ensures { λ r. ⌜ OverrideAt (lookupIn (now (f .entry)) (now (starts .entry)) (now (ends .entry)) (now (tags .entry)) counts) (now (t .entry)) at allow (programIn (now (m .entry)) p) (programIn (now (m .exit)) (r .drawn)) (r .answer) ⌝ }
+    ensures { λ r. ⌜ OverrideAt (lookupIn (now (f .entry)) (now (starts .entry)) (now (ends .entry)) (now (tags .entry)) counts) (now (t .entry)) at allow (nodesIn (now (m .entry)) p) (nodesIn (now (m .exit)) (r .drawn)) (r .answer) ⌝ }
 {
     let v = part(m, t, at, allow, b',', f, starts, ends, tags, counts, p);
     let k = v.answer;
@@ -311,7 +311,7 @@ fn part<'a>(
     p: Drawn,
 ) -> Passed
     requires { ⌜ Sound (now f) (now starts) (now ends) (now tags) counts × (at ≤ length (now t)) × (772 ≤ length (now m)) ⌝ }
-    ensures { λ r. ⌜ PartAt (lookupIn (now (f .entry)) (now (starts .entry)) (now (ends .entry)) (now (tags .entry)) counts) (now (t .entry)) at allow end (programIn (now (m .entry)) p) (programIn (now (m .exit)) (r .drawn)) (r .answer) ⌝ }
+    ensures { λ r. ⌜ PartAt (lookupIn (now (f .entry)) (now (starts .entry)) (now (ends .entry)) (now (tags .entry)) counts) (now (t .entry)) at allow end (nodesIn (now (m .entry)) p) (nodesIn (now (m .exit)) (r .drawn)) (r .answer) ⌝ }
 {
     let v = expression(m, t, at, allow, f, starts, ends, tags, counts, p);
     let k = v.answer;
@@ -350,7 +350,7 @@ fn factor<'a>(
     p: Drawn,
 ) -> Passed
     requires { ⌜ Sound (now f) (now starts) (now ends) (now tags) counts × (at ≤ length (now t)) × (772 ≤ length (now m)) ⌝ }
-    ensures { λ r. ⌜ FactorAt (lookupIn (now (f .entry)) (now (starts .entry)) (now (ends .entry)) (now (tags .entry)) counts) (now (t .entry)) at allow (programIn (now (m .entry)) p) (programIn (now (m .exit)) (r .drawn)) (r .answer) ⌝ }
+    ensures { λ r. ⌜ FactorAt (lookupIn (now (f .entry)) (now (starts .entry)) (now (ends .entry)) (now (tags .entry)) counts) (now (t .entry)) at allow (nodesIn (now (m .entry)) p) (nodesIn (now (m .exit)) (r .drawn)) (r .answer) ⌝ }
 {
     let v = primary(m, t, at, allow, f, starts, ends, tags, counts, p);
     let k = v.answer;
@@ -378,7 +378,7 @@ fn more<'a>(
     p: Drawn,
 ) -> Passed
     requires { ⌜ Sound (now f) (now starts) (now ends) (now tags) counts × (at ≤ length (now t)) × (772 ≤ length (now m)) ⌝ }
-    ensures { λ r. ⌜ MoreAt (lookupIn (now (f .entry)) (now (starts .entry)) (now (ends .entry)) (now (tags .entry)) counts) (now (t .entry)) at allow (programIn (now (m .entry)) p) (programIn (now (m .exit)) (r .drawn)) (r .answer) ⌝ }
+    ensures { λ r. ⌜ MoreAt (lookupIn (now (f .entry)) (now (starts .entry)) (now (ends .entry)) (now (tags .entry)) counts) (now (t .entry)) at allow (nodesIn (now (m .entry)) p) (nodesIn (now (m .exit)) (r .drawn)) (r .answer) ⌝ }
 {
     let mut q = p;
     let mut i = at;
@@ -427,7 +427,7 @@ fn expression<'a>(
     p: Drawn,
 ) -> Passed
     requires { ⌜ Sound (now f) (now starts) (now ends) (now tags) counts × (at ≤ length (now t)) × (772 ≤ length (now m)) ⌝ }
-    ensures { λ r. ⌜ ExpressionAt (lookupIn (now (f .entry)) (now (starts .entry)) (now (ends .entry)) (now (tags .entry)) counts) (now (t .entry)) at allow (programIn (now (m .entry)) p) (programIn (now (m .exit)) (r .drawn)) (r .answer) ⌝ }
+    ensures { λ r. ⌜ ExpressionAt (lookupIn (now (f .entry)) (now (starts .entry)) (now (ends .entry)) (now (tags .entry)) counts) (now (t .entry)) at allow (nodesIn (now (m .entry)) p) (nodesIn (now (m .exit)) (r .drawn)) (r .answer) ⌝ }
 {
     let v = factor(m, t, at, allow, f, starts, ends, tags, counts, p);
     let k = v.answer;
@@ -441,7 +441,7 @@ fn expression<'a>(
     }
 }
 
-// Reads a whole text. A good answer is its length, and the program is that of its tree; a bad one is the place where it goes wrong.
+// Reads a whole text. A good answer is its length, and the nodes are those of its tree; a bad one is the place where it goes wrong.
 pub fn read<'a>(
     t: &'a [u8],
     f: &'a [u8],
@@ -457,29 +457,33 @@ pub fn read<'a>(
     let none = Drawn {
         used: 0,
         operators: 0,
-        height: 0,
-        held: 0,
         missing: Place::Nowhere,
     };
     let v = from_start(&mut m, t, 32, f, starts, ends, tags, counts, none);
     let k = v.answer;
     let q = v.drawn;
-    let program = program_of(&m, q);
+    let missing = q.missing;
+    let nodes = Nodes {
+        cells: m,
+        used: q.used,
+        operators: q.operators,
+        missing: missing,
+    };
     match k {
         Parsed::Bad(e) => Made {
             answer: Parsed::Bad(e),
-            program: program,
+            nodes: nodes,
         },
         Parsed::Good(n) => {
             if !ends_at(t, n) {
                 return Made {
                     answer: Parsed::Bad(n),
-                    program: program,
+                    nodes: nodes,
                 };
             }
             Made {
                 answer: Parsed::Good(n),
-                program: program,
+                nodes: nodes,
             }
         }
     }

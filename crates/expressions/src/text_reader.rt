@@ -9,7 +9,7 @@ ghost use Prim.Native.Nat.{_≤_};
 ghost use lib.Dec.{eqb};
 ghost use lib.ListN.{length};
 ghost use Rattle.words.specs.Contract.{ExpressionAt};
-ghost use Rattle.words.specs.Drawn.{programIn};
+ghost use Rattle.words.specs.Cells.{nodesIn};
 ghost use Rattle.names.specs.Entries.{Sound, lookupIn};
 
 // The expression's text, and the place reached in it.
@@ -38,7 +38,7 @@ fn expression_here<'a>(
     p: Drawn,
 ) -> Passed
     requires { ⌜ Sound (now f) (now starts) (now ends) (now tags) counts × (r .at ≤ length (now (r .text))) × (772 ≤ length (now m)) ⌝ }
-    ensures { λ v. ⌜ ExpressionAt (lookupIn (now (f .entry)) (now (starts .entry)) (now (ends .entry)) (now (tags .entry)) counts) (now (r .entry .text)) (r .entry .at) allow (programIn (now (m .entry)) p) (programIn (now (m .exit)) (v .drawn)) (v .answer) ⌝ }
+    ensures { λ v. ⌜ ExpressionAt (lookupIn (now (f .entry)) (now (starts .entry)) (now (ends .entry)) (now (tags .entry)) counts) (now (r .entry .text)) (r .entry .at) allow (nodesIn (now (m .entry)) p) (nodesIn (now (m .exit)) (v .drawn)) (v .answer) ⌝ }
 {
     expression(m, r.text, r.at, allow, f, starts, ends, tags, counts, p)
 }
@@ -56,7 +56,7 @@ pub fn from_start<'a>(
     p: Drawn,
 ) -> Passed
     requires { ⌜ Sound (now f) (now starts) (now ends) (now tags) counts × (772 ≤ length (now m)) ⌝ }
-    ensures { λ v. ⌜ ExpressionAt (lookupIn (now (f .entry)) (now (starts .entry)) (now (ends .entry)) (now (tags .entry)) counts) (now (t .entry)) 0 allow (programIn (now (m .entry)) p) (programIn (now (m .exit)) (v .drawn)) (v .answer) ⌝ }
+    ensures { λ v. ⌜ ExpressionAt (lookupIn (now (f .entry)) (now (starts .entry)) (now (ends .entry)) (now (tags .entry)) counts) (now (t .entry)) 0 allow (nodesIn (now (m .entry)) p) (nodesIn (now (m .exit)) (v .drawn)) (v .answer) ⌝ }
 {
     expression_here(m, at_place(t, 0), allow, f, starts, ends, tags, counts, p)
 }

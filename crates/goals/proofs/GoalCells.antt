@@ -1,15 +1,15 @@
--- The cells of a good goal's program are in the ranges that a run asks for.
+-- The cells of a good goal's nodes are in the ranges that a run asks for.
 use mathlib.Core.Path.{_∙_}
 use mathlib.Core.List.{List}
 use Prim.Native.Nat.{ℕ, _<_}
 use native.Mathlib.Omega.{arith}
-use lib.ListN.{getD}
 use Rattle.algebra.specs.Stored.{storedSort}
 use Rattle.grammar.specs.Names.{Kind, table, member, predicate}
-use Rattle.words.specs.Cells.{cell, NumberOf, CellWithin}
-use Rattle.words.specs.declared.Cell.{Cell}
+use Rattle.nodes.specs.Cells.{cellIn}
+use Rattle.words.specs.Cells.{NumberOf, CellWithin}
+use Rattle.nodes.specs.declared.Cell.{Cell}
 use Rattle.names.specs.declared.NameCounts.{NameCounts}
-use Rattle.words.specs.declared.Program.{Program}
+use Rattle.words.specs.declared.Nodes.{Nodes}
 use Rattle.reader.specs.Declarations.{Declared}
 use Rattle.reader.specs.Expression.{lookup}
 use Rattle.state.specs.NameTables.{Names}
@@ -37,6 +37,6 @@ module _ (f starts ends tags : List ℕ) (c : NameCounts) (few : Few c) (d : Dec
         (y .0, omega arith);
   }
 
-module _ (f w : List ℕ) (st : State) (d : Declared) (limit : ℕ) (t : List ℕ) (p : Program) (G : GoalGood d limit t p) where
-  pub goal-cells : Stands f w st d → (j : ℕ) → j < p .used → CellFits (st .counts) (getD (p .cells) j (cell 0 0 0 0))
+module _ (f w : List ℕ) (st : State) (d : Declared) (limit : ℕ) (t : List ℕ) (p : Nodes) (G : GoalGood d limit t p) where
+  pub goal-cells : Stands f w st d → (j : ℕ) → j < p .used → CellFits (st .counts) (cellIn (p .cells) j)
   goal-cells S j l = within-fits f (st .starts) (st .ends) (st .tags) (st .counts) (S .few) d (S .names) _ (G .within j l)

@@ -1,34 +1,38 @@
--- The verdict on an E line and its program, by the ways through their code; and the state after it.
+-- The verdict on an E line and its nodes, by the ways through their code; and the state after it.
 use mathlib.Core.Path.{_≡_, refl, sym, ap, _∙_, subst, fun-ext}
 use mathlib.Core.Bool.{true, false}
 use mathlib.Core.List.{List, [], _∷_}
 use mathlib.Core.Option.{Option, some}
 use Prim.Native.Nat.{ℕ, zero, suc, _-_, _≤_, _<_}
 use native.Mathlib.Omega.{arith}
-use lib.ListN.{length, take, drop}
-use lib.Seq.{slice, take-all}
+use lib.ListN.{take, drop}
+use lib.Seq.{slice}
+use lib.Dec.{ltb}
+use Rattle.algebra.proofs.Bool.{or-right}
 use borrow.Author.Tests.{lt-ltb, le-ltb}
 use Rattle.algebra.specs.Algebra.{Tree, operators, held}
 use Rattle.algebra.specs.Policy.{Rule, Scope}
-use Rattle.algebra.specs.Program.{steps}
-use Rattle.algebra.proofs.Program.{length-steps}
+use Rattle.algebra.specs.Nodes.{Encodes}
 use Rattle.grammar.specs.Expression.{Exp}
 use Rattle.grammar.specs.Machine.{Reading, read, wrong, reading}
 use Rattle.grammar.specs.Names.{Kind}
 use Rattle.names.specs.Entries.{lookupIn}
 use Rattle.grammar.specs.Tree.{treeOf}
+use Rattle.nodes.specs.Cells.{label, HasTree}
+use Rattle.nodes.proofs.Held.{Held}
+use Rattle.nodes.specs.declared.Counted.{Counted}
 use Rattle.words.specs.Cells.{placeOf, Yields}
 use Rattle.words.specs.Contract.{Told, Answer}
 use Rattle.names.specs.declared.NameCounts.{NameCounts}
 use Rattle.words.specs.declared.Parsed.{Parsed}
 use Rattle.words.specs.declared.Parsed.the-variants.{Good, Bad}
 use Rattle.words.specs.declared.Place.the-variants.{At, Nowhere}
-use Rattle.words.specs.declared.Program.{Program}
+use Rattle.words.specs.declared.Nodes.{Nodes}
 use Rattle.words.specs.declared.Made.{Made}
 use Rattle.reader.specs.Line.{expressionLine}
 use Rattle.reader.specs.Declarations.{Declared, groupOf}
 use Rattle.reader.specs.Expression.{lookup, isDeclared}
-use Rattle.reader.specs.Rows.{row, if, good, refuse, first, rows, outOfOrder, withoutRule, badCounts, tooMany, declaredAlready, notDeclared, grantsAway}
+use Rattle.reader.specs.Rows.{row, placeless, good, refuse, first, rows, outOfOrder, withoutRule, badCounts, tooMany, declaredAlready, notDeclared, grantsAway}
 use Rattle.reader.specs.Rows.{twoSorts, notOfGrammar, nameNotDeclared, tooLarge, expressionRows}
 use Rattle.reader.specs.File.{goalOf, add}
 use Rattle.state.specs.Standing.{NamesStand, Stands}
@@ -37,9 +41,11 @@ use Rattle.rows.specs.First.{verdictAt}
 use Rattle.goals.specs.Goals.{GoalGood, GoalJudged, endedOf}
 use Rattle.state.specs.declared.State.{State}
 use Rattle.goals.specs.declared.Goal.{Goal}
-use Rattle.state.proofs.Verdicts.{first-met, first-passed, if-true, if-false, meets-8, meets-7, past-11}
+use Rattle.state.proofs.Verdicts.{first-met, first-passed, placeless-true, placeless-false, meets-8, meets-7, past-11}
 use Rattle.state.proofs.Grants.{early-4, in-order, counted}
 use Rattle.state.proofs.Lines.{few-after}
+use Rattle.lines.specs.Parsed.{Within, textOf}
+use Rattle.lines.specs.declared.text.Part.{Part}
 
 -- ---- a part of the file as the code lends it
 
@@ -57,9 +63,9 @@ part-is (suc a) (suc e) (x ∷ xs) h =
     let q : suc e - suc a ≡ e - a = omega arith in
     ap (λ (k : ℕ). take k (drop a xs)) q ∙ part-is a e xs (omega arith)
 
-pub told-part : (number : Kind → List ℕ → Option ℕ) (f : List ℕ) (a e : ℕ) (m : Made) → a ≤ e → Answer number (take (e - a) (drop a f)) m
-    → Answer number (slice a e f) m
-told-part number f a e m h told = subst (λ (t : List ℕ). Told number t (reading t) m) (part-is a e f h) told
+pub told-part : (number : Kind → List ℕ → Option ℕ) (f : List ℕ) (t : Part) (m : Made) → Within f t
+    → Answer number (take (t .to - t .from) (drop (t .from) f)) m → Answer number (textOf f t) m
+told-part number f t m w told = subst (λ (x : List ℕ). Told number x (reading x) m) (part-is (t .from) (t .to) f (w .order)) told
 
 -- ---- what the reader of expressions says, taken apart
 
@@ -71,7 +77,7 @@ bad-place : Parsed → ℕ
 bad-place (Good n) = 0
 bad-place (Bad e) = e
 
-record Whole (number : Kind → List ℕ → Option ℕ) (v : Reading) (p : Program) : Type 0 where
+record Whole (number : Kind → List ℕ → Option ℕ) (v : Reading) (p : Nodes) : Type 0 where
   expression : Exp
   is : v ≡ read expression
   yields : Yields number expression p
@@ -82,10 +88,24 @@ module _ (number : Kind → List ℕ → Option ℕ) (t : List ℕ) (r : Made) w
   told-bad (read x) e h q = absurd (let k = ap good-code (sym (h .0) ∙ q) in omega arith)
   told-bad (wrong p) e h q = ap wrong (ap bad-place (sym h ∙ q))
 
-  told-good : (v : Reading) (n : ℕ) → Told number t v r → r .answer ≡ Good n → Whole number v (r .program)
+  told-good : (v : Reading) (n : ℕ) → Told number t v r → r .answer ≡ Good n → Whole number v (r .nodes)
   unfolding Told good-code
   told-good (read x) n h q = record { expression = x; is = refl; yields = h .1 }
   told-good (wrong p) n h q = absurd (let k = ap good-code (sym h ∙ q) in omega arith)
+
+-- the nodes of an expression that was read, where it has few operators
+pub has-tree : (number : Kind → List ℕ → Option ℕ) (t : List ℕ) (r : Made) {n : ℕ} → Answer number t r → r .answer ≡ Good n → r .nodes .operators ≤ 64
+    → HasTree (r .nodes .cells) (r .nodes .used)
+has-tree number t r {n} told q few =
+    let w = told-good number t r (reading t) n told q in
+    let y = w .yields in
+    record {
+      tree = treeOf number (w .expression);
+      start = 0;
+      coded = y .tree (omega (arith, y .operators-are));
+      few = y .few;
+      long = omega (arith, y .long, y .few);
+    }
 
 -- ---- a refusal
 
@@ -101,7 +121,7 @@ judged-no d limit t n p h e j en ep el = record {
   good = λ z. absurd (omega arith);
 }
 
--- ---- the verdict and the program
+-- ---- the verdict and the nodes
 
 module _ (f starts ends tags : List ℕ) (c : NameCounts) (d : Declared) (ns : NamesStand f starts ends tags c d) (group : ℕ) (g : d .group ≡ group)
     (limit : ℕ) (t : List ℕ) where
@@ -142,76 +162,75 @@ module _ (f starts ends tags : List ℕ) (c : NameCounts) (d : Declared) (ns : N
       module _ (p7 : limit ≤ 4096) (m : Made) (told : Answer (lookupIn f starts ends tags c) t m) where
         -- the rows of the expression, where it reads so
         in-rows : (v : Reading) → reading t ≡ v
-            → first (rows d (expressionLine limit t)) ≡ first (row 12 (notOfGrammar v) ∷ row 13 (nameNotDeclared d v) ∷ row 14 (if (tooLarge d v)) ∷ [])
+            → first (rows d (expressionLine limit t)) ≡ first (row 12 (notOfGrammar v) ∷ row 13 (nameNotDeclared d v) ∷ row 14 (placeless (tooLarge d v)) ∷ [])
         unfolding tooMany declaredAlready notDeclared grantsAway twoSorts expressionRows
         in-rows v e =
             past-11 d (expressionLine limit t) row-4 row-8 (le-ltb 4096 limit p7) refl refl refl refl
-            ∙ ap (λ (x : Reading). first (row 12 (notOfGrammar x) ∷ row 13 (nameNotDeclared d x) ∷ row 14 (if (tooLarge d x)) ∷ [])) e
+            ∙ ap (λ (x : Reading). first (row 12 (notOfGrammar x) ∷ row 13 (nameNotDeclared d x) ∷ row 14 (placeless (tooLarge d x)) ∷ [])) e
 
         said : Told (lookup d) t (reading t) m
         said = subst (λ (n : Kind → List ℕ → Option ℕ). Told n t (reading t) m) (fun-ext (λ k. fun-ext (λ n. ns .looks k n))) told
 
-        pub goal-12 : {e : ℕ} → m .answer ≡ Bad e → (p : Program) → GoalJudged d limit t (record { number = 12; place = e; limit = limit; program = p })
+        pub goal-12 : {e : ℕ} → m .answer ≡ Bad e → (p : Nodes) → GoalJudged d limit t (record { number = 12; place = e; limit = limit; nodes = p })
         unfolding notOfGrammar
         goal-12 {e} q p =
             judged-no d limit t 12 e (omega arith) (in-rows (wrong e) (told-bad (lookup d) t m (reading t) e said q) ∙ first-met 12 e _ _ refl) _ refl refl refl
 
         module _ {n : ℕ} (q : m .answer ≡ Good n) where
-          whole : Whole (lookup d) (reading t) (m .program)
+          whole : Whole (lookup d) (reading t) (m .nodes)
           whole = told-good (lookup d) t m (reading t) n said q
 
           abbrev tree : Tree Scope
           tree = treeOf (lookup d) (whole .expression)
 
           past-12 : first (rows d (expressionLine limit t))
-              ≡ first (row 13 (nameNotDeclared d (read (whole .expression))) ∷ row 14 (if (tooLarge d (read (whole .expression)))) ∷ [])
+              ≡ first (row 13 (nameNotDeclared d (read (whole .expression))) ∷ row 14 (placeless (tooLarge d (read (whole .expression)))) ∷ [])
           unfolding notOfGrammar
           past-12 = in-rows (read (whole .expression)) (whole .is) ∙ first-passed 12 _ _ refl
 
-          missing-at : nameNotDeclared d (read (whole .expression)) ≡ placeOf (m .program .missing)
+          missing-at : nameNotDeclared d (read (whole .expression)) ≡ placeOf (m .nodes .missing)
           unfolding nameNotDeclared isDeclared
           missing-at = sym (whole .yields .missing-is)
 
-          pub goal-13 : {i : ℕ} → m .program .missing ≡ At i → (p : Program)
-              → GoalJudged d limit t (record { number = 13; place = i; limit = limit; program = p })
+          pub goal-13 : {i : ℕ} → m .nodes .missing ≡ At i → (p : Nodes)
+              → GoalJudged d limit t (record { number = 13; place = i; limit = limit; nodes = p })
           goal-13 {i} h p = judged-no d limit t 13 i (omega arith) (past-12 ∙ first-met 13 i _ _ (missing-at ∙ ap placeOf h)) _ refl refl refl
 
-          module _ (h : m .program .missing ≡ Nowhere) where
-            past-13 : first (rows d (expressionLine limit t)) ≡ first (row 14 (if (tooLarge d (read (whole .expression)))) ∷ [])
+          module _ (h : m .nodes .missing ≡ Nowhere) where
+            past-13 : first (rows d (expressionLine limit t)) ≡ first (row 14 (placeless (tooLarge d (read (whole .expression)))) ∷ [])
             past-13 = past-12 ∙ first-passed 13 _ _ (missing-at ∙ ap placeOf h)
 
-            too-large : tooLarge d (read (whole .expression)) ≡ true → (p : Program)
-                → GoalJudged d limit t (record { number = 14; place = 0; limit = limit; program = p })
-            too-large e p = judged-no d limit t 14 0 (omega arith) (past-13 ∙ first-met 14 0 _ _ (if-true e)) _ refl refl refl
+            too-large : tooLarge d (read (whole .expression)) ≡ true → (p : Nodes)
+                → GoalJudged d limit t (record { number = 14; place = 0; limit = limit; nodes = p })
+            too-large e p = judged-no d limit t 14 0 (omega arith) (past-13 ∙ first-met 14 0 _ _ (placeless-true e)) _ refl refl refl
 
-            pub goal-held : 14 < m .program .held → (p : Program) → GoalJudged d limit t (record { number = 14; place = 0; limit = limit; program = p })
+            pub goal-operators : 64 < m .nodes .operators → (p : Nodes) → GoalJudged d limit t (record { number = 14; place = 0; limit = limit; nodes = p })
             unfolding tooLarge
-            goal-held x = too-large (rw (lt-ltb 14 (held tree) (let y = whole .yields .held-are in omega arith)))
+            goal-operators x = too-large (or-right (ltb 14 (held tree)) (lt-ltb 64 (operators tree) (omega (arith, whole .yields .operators-are))))
 
-            module _ (few : m .program .held ≤ 14) where
-              few-held : held tree ≤ 14
-              few-held = let y = whole .yields .held-are in omega arith
+            module _ (few : m .nodes .operators ≤ 64) (r : Counted) (is-held : Held (m .nodes .cells) (m .nodes .used) r) where
+              few-operators : operators tree ≤ 64
+              few-operators = omega (arith, whole .yields .operators-are)
 
-              pub goal-operators : 64 < m .program .operators → (p : Program)
-                  → GoalJudged d limit t (record { number = 14; place = 0; limit = limit; program = p })
+              coded : Encodes (label (m .nodes .cells)) tree 0 (m .nodes .used)
+              coded = whole .yields .tree few-operators
+
+              pub goal-held : 14 < r .sets → (p : Nodes) → GoalJudged d limit t (record { number = 14; place = 0; limit = limit; nodes = p })
               unfolding tooLarge
-              goal-operators x = too-large (rw (
-                le-ltb 14 (held tree) few-held,
-                lt-ltb 64 (operators tree) (let y = whole .yields .operators-are in omega arith),
-              ))
+              goal-held x = too-large (rw (lt-ltb 14 (held tree) (omega (arith, is-held tree 0 coded .1))))
 
-              pub goal-good : m .program .operators ≤ 64 → GoalJudged d limit t (record { number = 0; place = 0; limit = limit; program = m .program })
+              pub goal-good : r .sets ≤ 14 → GoalJudged d limit t (record { number = 0; place = 0; limit = limit; nodes = m .nodes })
               unfolding tooLarge first
               goal-good x = record {
-                verdict = past-13 ∙ first-passed 14 (if (tooLarge d (read (whole .expression)))) []
-                    (if-false (rw (le-ltb 14 (held tree) few-held, le-ltb 64 (operators tree) few-operators)));
+                verdict = past-13 ∙ first-passed 14 (placeless (tooLarge d (read (whole .expression)))) []
+                    (placeless-false (rw (le-ltb 14 (held tree) few-held, le-ltb 64 (operators tree) few-operators)));
                 limit-is = refl;
                 good = λ z. record {
                   expression = whole .expression;
                   reads = whole .is;
-                  cells = whole .yields .cells-are ∙ take-all 193 (steps tree) short;
-                  used = used-all;
-                  few-used = omega (arith, used-all, short);
+                  tree = coded;
+                  long = whole .yields .long;
+                  few-used = whole .yields .few;
                   within = whole .yields .within h;
                   limited = p7;
                   few-held = few-held;
@@ -219,14 +238,8 @@ module _ (f starts ends tags : List ℕ) (c : NameCounts) (d : Declared) (ns : N
                 };
               }
                 where
-                  few-operators : operators tree ≤ 64
-                  few-operators = let y = whole .yields .operators-are in omega arith
-
-                  short : length (steps tree) ≤ 193
-                  short = let y = length-steps tree in let z = few-operators in omega arith
-
-                  used-all : m .program .used ≡ length (steps tree)
-                  used-all = let y = whole .yields .used-is in let z = short in omega arith
+                  few-held : held tree ≤ 14
+                  few-held = omega (arith, is-held tree 0 coded .1)
 
 -- ---- the verdict taken apart
 
@@ -243,7 +256,7 @@ module _ (d : Declared) (limit : ℕ) (t : List ℕ) (j : Goal) (J : GoalJudged 
 
 -- ---- what is declared after it
 
-pub goal-added : (d : Declared) (limit : ℕ) (t : List ℕ) (p : Program) (G : GoalGood d limit t p)
+pub goal-added : (d : Declared) (limit : ℕ) (t : List ℕ) (p : Nodes) (G : GoalGood d limit t p)
     → add d (expressionLine limit t) .goal ≡ some (record { limit = limit; tree = treeOf (lookup d) (G .expression) })
 unfolding add goalOf
 goal-added d limit t p G = ap (goalOf d limit) (G .reads)

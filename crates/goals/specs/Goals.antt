@@ -1,19 +1,20 @@
 -- What the code's answer on an E line means, in terms of the rows and of what is declared after it.
 use mathlib.Core.Path.{_≡_}
-use mathlib.Core.List.{List, map}
+use mathlib.Core.List.{List}
 use Prim.Native.Nat.{ℕ, _≤_, _<_}
-use lib.ListN.{length, getD, take}
+use lib.ListN.{length}
 use Rattle.algebra.specs.Algebra.{operators, held}
-use Rattle.algebra.specs.Program.{steps}
+use Rattle.algebra.specs.Nodes.{Encodes}
 use Rattle.algebra.specs.Stored.{storedSort}
 use Rattle.grammar.specs.Expression.{Exp}
 use Rattle.grammar.specs.Machine.{read, reading}
 use Rattle.grammar.specs.Tree.{treeOf}
 use Rattle.names.specs.Entries.{memberCount}
-use Rattle.words.specs.Cells.{cell, cellOf, CellWithin}
-use Rattle.words.specs.declared.Cell.{Cell}
+use Rattle.nodes.specs.Cells.{cellIn, label}
+use Rattle.words.specs.Cells.{CellWithin}
+use Rattle.nodes.specs.declared.Cell.{Cell}
 use Rattle.names.specs.declared.NameCounts.{NameCounts}
-use Rattle.words.specs.declared.Program.{Program}
+use Rattle.words.specs.declared.Nodes.{Nodes}
 use Rattle.reader.specs.Line.{expressionLine}
 use Rattle.reader.specs.Declarations.{Declared}
 use Rattle.reader.specs.Expression.{lookup}
@@ -22,14 +23,14 @@ use Rattle.rows.specs.First.{verdictAt}
 use Rattle.state.specs.declared.State.{State}
 use Rattle.goals.specs.declared.Goal.{Goal}
 
--- the program is that of the tree of the expression that was read
-pub record GoalGood (d : Declared) (limit : ℕ) (t : List ℕ) (p : Program) : Type 0 where
+-- the nodes are those of the tree of the expression that was read
+pub record GoalGood (d : Declared) (limit : ℕ) (t : List ℕ) (p : Nodes) : Type 0 where
   pub expression : Exp
   pub reads : reading t ≡ read expression
-  pub cells : map cellOf (take (p .used) (p .cells)) ≡ steps (treeOf (lookup d) expression)
-  pub used : p .used ≡ length (steps (treeOf (lookup d) expression))
+  pub tree : Encodes (label (p .cells)) (treeOf (lookup d) expression) 0 (p .used)
+  pub long : length (p .cells) ≡ 772
   pub few-used : p .used ≤ 193
-  pub within : (j : ℕ) → j < p .used → CellWithin (lookup d) (getD (p .cells) j (cell 0 0 0 0))
+  pub within : (j : ℕ) → j < p .used → CellWithin (lookup d) (cellIn (p .cells) j)
   pub limited : limit ≤ 4096
   pub few-held : held (treeOf (lookup d) expression) ≤ 14
   pub few-operators : operators (treeOf (lookup d) expression) ≤ 64
@@ -44,7 +45,7 @@ pub record CellFits (c : NameCounts) (x : Cell) : Type 0 where
 pub record GoalJudged (d : Declared) (limit : ℕ) (t : List ℕ) (j : Goal) : Type 0 where
   pub verdict : first (rows d (expressionLine limit t)) ≡ verdictAt (j .number) (j .place)
   pub limit-is : j .limit ≡ limit
-  pub good : j .number ≡ 0 → GoalGood d limit t (j .program)
+  pub good : j .number ≡ 0 → GoalGood d limit t (j .nodes)
 
 -- the state after an E line
 unfoldable pub endedOf : State → State

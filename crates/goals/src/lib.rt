@@ -1,13 +1,13 @@
-// E lines: the rows that they may meet, and the program of the expression.
+// E lines: the rows that they may meet, and the nodes of the expression.
 use expressions::read;
 use lines::text::Part;
 use names::NameCounts;
+use nodes::sets_held;
 use state::bad_counts;
 use state::late;
-use words::Cell;
+use words::Nodes;
 use words::Parsed;
 use words::Place;
-use words::Program;
 ghost use mathlib.Core.Path.{_≡_};
 ghost use Prim.Native.Nat.{_≤_};
 ghost use lib.ListN.{length};
@@ -17,38 +17,29 @@ ghost use Rattle.lines.specs.Parsed.{Within, textOf};
 ghost use Rattle.state.specs.Standing.{NamesStand};
 ghost use Rattle.goals.specs.Goals.{GoalJudged};
 
-// An E line's number, 0 where it is good, with the place of a refusal; its limit, and the program of its expression where it is good.
+// An E line's number, 0 where it is good, with the place of a refusal; its limit, and the nodes of its expression where it is good.
 pub struct Goal {
     pub number: u8,
     pub place: usize,
     pub limit: u16,
-    pub program: Program,
+    pub nodes: Nodes,
 }
 
 // A refusal before the expression is read.
 fn refused(number: u8, limit: u16) -> Goal
     ensures { λ r. ⌜ (r .number ≡ number) × (r .place ≡ 0) × (r .limit ≡ limit) ⌝ }
 {
-    let cell = Cell {
-        kind: 0,
-        sort: 0,
-        op: 0,
-        number: 0,
-    };
-    let cells = [cell; 193];
-    let program = Program {
-        cells: cells,
+    let nodes = Nodes {
+        cells: [0u8; 772],
         used: 0,
         operators: 0,
-        height: 0,
-        held: 0,
         missing: Place::Nowhere,
     };
     Goal {
         number: number,
         place: 0,
         limit: limit,
-        program: program,
+        nodes: nodes,
     }
 }
 
@@ -80,44 +71,45 @@ pub fn judge_expression<'a>(
     let text = &f[from..to];
     let m = read(text, f, starts, ends, tags, n);
     let answer = m.answer;
-    let program = m.program;
-    let missing = program.missing;
+    let nodes = m.nodes;
+    let missing = nodes.missing;
     match answer {
         Parsed::Bad(e) => Goal {
             number: 12,
             place: e,
             limit: limit,
-            program: program,
+            nodes: nodes,
         },
         Parsed::Good(e) => match missing {
             Place::At(i) => Goal {
                 number: 13,
                 place: i,
                 limit: limit,
-                program: program,
+                nodes: nodes,
             },
             Place::Nowhere => {
-                if 14 < program.held {
+                if 64 < nodes.operators {
                     return Goal {
                         number: 14,
                         place: 0,
                         limit: limit,
-                        program: program,
+                        nodes: nodes,
                     };
                 }
-                if 64 < program.operators {
+                let held = sets_held(&nodes.cells, nodes.used);
+                if 14 < held.sets {
                     return Goal {
                         number: 14,
                         place: 0,
                         limit: limit,
-                        program: program,
+                        nodes: nodes,
                     };
                 }
                 Goal {
                     number: 0,
                     place: 0,
                     limit: limit,
-                    program: program,
+                    nodes: nodes,
                 }
             }
         },

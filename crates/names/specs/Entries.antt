@@ -8,6 +8,7 @@ use lib.ListN.{length, getD}
 use Rattle.algebra.specs.Lists.{tabFrom}
 use Rattle.algebra.specs.Sort.{Sort, subject, object, action}
 use Rattle.algebra.specs.Stored.{storedSort}
+use Rattle.algebra.specs.declared.Counts.{Counts}
 use Rattle.grammar.specs.Lookup.{same, positionFrom, position}
 use Rattle.grammar.specs.Names.{Kind, table, rule-set, member, predicate}
 pub use Rattle.name_index.specs.Parts.{foundOf}
@@ -63,6 +64,9 @@ abbrev pub memberCount : NameCounts → Sort → ℕ
 memberCount c subject = c .subjects
 memberCount c object = c .objects
 memberCount c action = c .actions
+
+abbrev pub countsOf : NameCounts → Counts
+countsOf c = record { subjects = c .subjects; objects = c .objects; actions = c .actions }
 
 -- the names of a sort's members
 abbrev pub memberNames : List ℕ → List ℕ → List ℕ → NameCounts → Sort → List (List ℕ)

@@ -1,4 +1,5 @@
 // Looking up a name in the entries that the code holds.
+use algebra::Counts;
 use name_index::Found;
 use name_index::Lookup;
 use name_index::insert;
@@ -11,6 +12,7 @@ ghost use Rattle.algebra.specs.Stored.{storedSort};
 ghost use Rattle.grammar.specs.Lookup.{position};
 ghost use Rattle.name_index.specs.Parts.{putAt, foundOf, LooksUp};
 ghost use Rattle.names.specs.Entries.{sortNumber, entryAt, entries, isTagged, isEntry, Group, Sound, memberNames, slotBase, spanOf, lookupIn, kindOf};
+ghost use Rattle.names.specs.Entries.{countsOf};
 
 // ---- looking up a name
 
@@ -240,4 +242,17 @@ pub fn look<'a>(
         from,
         to,
     )
+}
+
+// ---- counts
+
+// How many members each sort has.
+pub fn counts_of(n: NameCounts) -> Counts
+    ensures { λ r. ⌜ r ≡ countsOf n ⌝ }
+{
+    Counts {
+        subjects: n.subjects,
+        objects: n.objects,
+        actions: n.actions,
+    }
 }

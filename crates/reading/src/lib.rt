@@ -30,9 +30,8 @@ use state::more_members;
 use state::placed;
 use state::rules::judge_rule;
 use state::table_line;
-use words::Cell;
+use words::Nodes;
 use words::Place;
-use words::Program;
 ghost use mathlib.Core.Path.{_≡_};
 ghost use mathlib.Core.List.{List};
 ghost use Prim.Native.Nat.{ℕ, _+_, _*_, _≤_, _<_};
@@ -93,25 +92,17 @@ fn empty() -> State
 
 // What stands in a goal's place until the E line.
 fn no_goal() -> Goal {
-    let cell = Cell {
-        kind: 0,
-        sort: 0,
-        op: 0,
-        number: 0,
-    };
-    let program = Program {
-        cells: [cell; 193],
+    let nodes = Nodes {
+        cells: [0u8; 772],
         used: 0,
         operators: 0,
-        height: 0,
-        held: 0,
         missing: Place::Nowhere,
     };
     Goal {
         number: 0,
         place: 0,
         limit: 0,
-        program,
+        nodes,
     }
 }
 

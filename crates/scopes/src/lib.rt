@@ -83,11 +83,14 @@ pub fn scope(w: &mut [u8], k: usize, t: &[u8], z: Counts, c: StoredScope)
     let objects = z.objects;
     let actions = z.actions;
     'subjects: for s in 0..subjects {
+        let s = Subject(s);
         'objects: for o in 0..objects {
+            let o = Object(o);
             'actions: for a in 0..actions {
-                let m = member(c.sort, Subject(s), Object(o), Action(a));
+                let a = Action(a);
+                let m = member(c.sort, s, o, a);
                 let inside = passes(t, c, m);
-                let x = access(Subject(s), Object(o), Action(a), z);
+                let x = access(s, o, a, z);
                 let b = w[at + x];
                 w[at + x] = scoped(b, inside);
             }

@@ -21,6 +21,8 @@ promised : (f : List ℕ) (says : ℕ → ℕ → Type 0) → ((x b : ℕ) → s
 promised f says is = record {
   permit-in = λ later x h. demands .sound f .permit-in (brings later) x (is x 2 h);
   deny-out = λ later x h. demands .sound f .deny-out (brings later) x (is x 0 h);
+  three-answers = λ x b h. demands .sound f .three-answers x b (is x b h);
+  decided-iff = λ later x b h n. demands .sound f .decided-iff (brings later) x b (is x b h) n;
   none-undecided = λ all x h. demands .complete f .none-undecided all x (is x 1 h);
   permit-iff = λ all later x b h. demands .complete f .permit-iff all (brings later) x b (is x b h);
   permit-stays = λ f′ later x b h g. demands .stable f f′ .permit-stays later x b (is x 2 h) g;

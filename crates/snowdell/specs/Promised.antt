@@ -3,7 +3,7 @@ use mathlib.Core.Path.{_≡_}
 use mathlib.Core.Logic.{_↔_}
 use mathlib.Core.Bool.{Bool, true}
 use mathlib.Core.List.{List}
-use Prim.Native.Nat.{ℕ, _<_}
+use Prim.Native.Nat.{ℕ, _≤_, _<_}
 use lib.ListN.{getD}
 use Rattle.reader.specs.File.{readFile}
 use Rattle.reader.specs.Later.{LaterFile}
@@ -19,6 +19,9 @@ pub record Promised (f : List ℕ) (says : ℕ → ℕ → Type 0) : Type 0 wher
   -- a permit is in demand 2's set and a deny is not, whatever grants the away lists later bring
   pub permit-in : (later : ℕ → ℕ → Bool) (x : ℕ) → says x 2 → Belongs f later x
   pub deny-out : (later : ℕ → ℕ → Bool) (x : ℕ) → says x 0 → ¬ Belongs f later x
+  -- an answer is deny 0, undecided 1 or permit 2; one that is not undecided is a permit if and only if the access is in the set
+  pub three-answers : (x b : ℕ) → says x b → b ≤ 2
+  pub decided-iff : (later : ℕ → ℕ → Bool) (x b : ℕ) → says x b → ¬ (b ≡ 1) → (b ≡ 2) ↔ Belongs f later x
   -- with every list here and a limit of N or more nothing is undecided, and a permit is an access of the set
   pub none-undecided : AllHere (readFile f) → (x : ℕ) → ¬ says x 1
   pub permit-iff : AllHere (readFile f) → (later : ℕ → ℕ → Bool) (x b : ℕ) → says x b → (b ≡ 2) ↔ Belongs f later x

@@ -1,114 +1,79 @@
--- Laws of a cell more in the slice: it is a cell more in the program. Assumes nothing.
-use mathlib.Core.Path.{_≡_, refl, sym, ap, _∙_}
+-- The ways through the code that puts a node. Assumes nothing.
+use mathlib.Core.Path.{_≡_, refl, sym, ap, ap₂, _∙_}
 use mathlib.Core.List.{List}
-use Prim.Native.Nat.{ℕ, _+_, _*_, _≤_, _<_, max}
-use native.Mathlib.Decide.{ℕ-discrete}
-use native.Mathlib.Omega.{arith}
-use lib.ListN.{length, getD, set, length-set}
-use lib.Seq.{ext-getD, getD-set-same, getD-set-other}
-use Rattle.algebra.proofs.Lists.{length-tab, getD-tab}
-use Rattle.words.specs.Cells.{cell, heightAfter, operatorsAfter, stored}
-use Rattle.words.specs.Drawn.{cellIn, withCell, cellsIn, programIn}
-use Rattle.words.specs.declared.Cell.{Cell}
+use mathlib.Core.Option.{Option, none, some}
+use Prim.Native.Nat.{ℕ, _+_, _≤_, _<_}
+use borrow.Author.Tests.{lt-ltb, le-ltb, leb-true}
+use lib.Dec.{leb}
+use mathlib.Core.Bool.{true, _&&_, false≢true}
+use Rattle.algebra.proofs.Bool.{and-left, and-right}
+use Rattle.grammar.specs.Names.{Kind}
+use Rattle.grammar.specs.Lookup.{place}
+use Rattle.words.specs.Cells.{countedTo, operatorsAfter, nodesIn, stored, firstPlace, placeAfter, isPlace, lacking, noted, withNumber, emitName}
+use Rattle.nodes.specs.Cells.{withCell}
+use Rattle.nodes.specs.declared.Cell.{Cell}
 use Rattle.words.specs.declared.Drawn.{Drawn}
-use Rattle.words.specs.declared.Program.{Program}
-use Rattle.words.proofs.Programs.{put-more, put-full}
+use Rattle.words.specs.declared.Place.{Place}
+use Rattle.words.specs.declared.Place.the-variants.{At, Nowhere}
+use Rattle.words.specs.declared.Nodes.{Nodes}
 
--- ---- one cell of the slice
+module _ (m : Place) (at : ℕ) where
+  pub place-old : {i : ℕ} → m ≡ At i → At i ≡ firstPlace m at
+  unfolding firstPlace
+  place-old q = rw q
 
-module _ (m : List ℕ) (i : ℕ) (n : Cell) where
-  abbrev with1 : List ℕ
-  with1 = set m (4 * i) (n .kind)
+  pub place-new : m ≡ Nowhere → At at ≡ firstPlace m at
+  unfolding firstPlace
+  place-new q = rw q
 
-  abbrev with2 : List ℕ
-  with2 = set with1 (4 * i + 1) (n .sort)
+module _ (m : List ℕ) (q : Drawn) (c : Cell) {o : ℕ} (z : o ≡ operatorsAfter (q .operators) (c .kind)) where
+  pub put-stored : (m′ : List ℕ) → q .used < 193 → m′ ≡ withCell m (q .used) c → _≡_ {A = Nodes}
+      (nodesIn m′ record { used = q .used + 1; operators = o; missing = q .missing }) (stored (nodesIn m q) c)
+  unfolding stored countedTo
+  put-stored m′ l e = rw (e, z, lt-ltb (q .used) 193 l)
 
-  abbrev with3 : List ℕ
-  with3 = set with2 (4 * i + 2) (n .op)
+  pub full-stored : 193 ≤ q .used → _≡_ {A = Nodes} (nodesIn m record { used = q .used; operators = o; missing = q .missing }) (stored (nodesIn m q) c)
+  unfolding stored countedTo
+  full-stored l = rw (z, le-ltb (q .used) 193 l)
 
-  -- another number of the slice
-  put-other : (p : ℕ) → ((k : ℕ) → k < 4 → p ≡ 4 * i + k → ⊥) → getD (withCell m i n) p 0 ≡ getD m p 0
-  put-other p d =
-      getD-set-other with3 (4 * i + 3) p (n .number) 0 (λ e. d 3 (omega arith) e) ∙ getD-set-other with2 (4 * i + 2) p (n .op) 0 (λ e. d 2 (omega arith) e)
-      ∙ getD-set-other with1 (4 * i + 1) p (n .sort) 0 (λ e. d 1 (omega arith) e)
-      ∙ getD-set-other m (4 * i) p (n .kind) 0 (λ e. d 0 (omega arith) (omega arith))
+-- where there is no room, the cell says no more than its kind
+same-full : (p : Nodes) (c d : Cell) → c .kind ≡ d .kind → 193 ≤ p .used → stored p c ≡ stored p d
+unfolding stored countedTo
+same-full p c d e l = rw (le-ltb (p .used) 193 l, e)
 
-  put-elsewhere : (j : ℕ) → (j ≡ i → ⊥) → cellIn (withCell m i n) j ≡ cellIn m j
-  put-elsewhere j h =
-      rw (
-        put-other (4 * j) (λ k l e. h (omega arith)),
-        put-other (4 * j + 1) (λ k l e. h (omega arith)),
-        put-other (4 * j + 2) (λ k l e. h (omega arith)),
-        put-other (4 * j + 3) (λ k l e. h (omega arith)),
-      ) refl
+-- after a name that stands at i, in place
+noted-is : (o : Option ℕ) (i : ℕ) (p : Nodes) → _≡_ {A = Nodes}
+    record { cells = p .cells; used = p .used; operators = p .operators; missing = placeAfter (p .missing) o i } (noted o i p)
+unfolding noted lacking placeAfter
+noted-is none i p = refl
+noted-is (some m) i p = refl
 
-  put-here : 4 * i + 4 ≤ length m → cellIn (withCell m i n) i ≡ n
-  put-here room =
-      let l1 : length with1 ≡ length m = simp length-set in
-      let l2 : length with2 ≡ length m = simp length-set in
-      let l3 : length with3 ≡ length m = simp length-set in
-      let k : getD (withCell m i n) (4 * i) 0 ≡ n .kind =
-      getD-set-other with3 (4 * i + 3) (4 * i) (n .number) 0 (λ e. omega arith) ∙ getD-set-other with2 (4 * i + 2) (4 * i) (n .op) 0 (λ e. omega arith)
-      ∙ getD-set-other with1 (4 * i + 1) (4 * i) (n .sort) 0 (λ e. omega arith) ∙ getD-set-same m (4 * i) (n .kind) 0 (omega arith) in
-      let s : getD (withCell m i n) (4 * i + 1) 0 ≡ n .sort =
-      getD-set-other with3 (4 * i + 3) (4 * i + 1) (n .number) 0 (λ e. omega arith) ∙ getD-set-other with2 (4 * i + 2) (4 * i + 1) (n .op) 0 (λ e. omega arith)
-      ∙ getD-set-same with1 (4 * i + 1) (n .sort) 0 (omega arith) in
-      let x : getD (withCell m i n) (4 * i + 2) 0 ≡ n .op =
-      getD-set-other with3 (4 * i + 3) (4 * i + 2) (n .number) 0 (λ e. omega arith) ∙ getD-set-same with2 (4 * i + 2) (n .op) 0 (omega arith) in
-      let z : getD (withCell m i n) (4 * i + 3) 0 ≡ n .number = getD-set-same with3 (4 * i + 3) (n .number) 0 (omega arith) in
-      rw (k, s, x, z) refl
+-- where a name is missing already, whatever number the next one has
+settled-is : (o : Option ℕ) (i : ℕ) (p : Nodes) → isPlace (p .missing) ≡ true → noted o i p ≡ p
+unfolding noted lacking firstPlace
+settled-is (some m) i p e = refl
+settled-is none i p e = go (p .missing) refl e
+  where
+    go : (m : Place) → p .missing ≡ m → isPlace m ≡ true → lacking p i ≡ p
+    go (At j) q h = rw q
+    go Nowhere q h = absurd (false≢true h)
 
--- ---- all of them
+module _ (number : Kind → List ℕ → Option ℕ) (k : Kind) (n : List ℕ) (i : ℕ) (c : Cell) (p : Nodes) where
+  pub settled-named : (leb 193 (p .used) && isPlace (p .missing)) ≡ true → stored p c ≡ emitName number k n i c p
+  unfolding emitName
+  settled-named s =
+      let full = leb-true 193 (p .used) (and-left (leb 193 (p .used)) (isPlace (p .missing)) s) in
+      same-full p c (withNumber c (place (number k n))) refl full
+      ∙ ap (λ (q : Nodes). stored q (withNumber c (place (number k n))))
+      (sym (settled-is (number k n) i p (and-right (leb 193 (p .used)) (isPlace (p .missing)) s)))
 
-pub length-cells : (m : List ℕ) → length (cellsIn m) ≡ 193
-unfolding cellsIn
-length-cells m = length-tab 193 (cellIn m)
-
-cell-is : (m : List ℕ) (j : ℕ) (d : Cell) → j < 193 → getD (cellsIn m) j d ≡ cellIn m j
-unfolding cellsIn
-cell-is m j d h = getD-tab 193 (cellIn m) j d h
-
--- the cells below j are those of the slice
-abbrev pub Taken : List ℕ → List Cell → ℕ → Type 0
-Taken m cs j = (i : ℕ) → i < j → getD cs i (cell 0 0 0 0) ≡ cellIn m i
-
-module _ (m : List ℕ) (cs : List Cell) (l : length cs ≡ 193) (j : ℕ) (h : Taken m cs j) where
-  pub all-taken : (q : Drawn) → 193 ≤ j → _≡_ {A = Program}
-      record { cells = cs; used = q .used; operators = q .operators; height = q .height; held = q .held; missing = q .missing } (programIn m q)
-  all-taken q b =
-      let d : Cell = cell 0 0 0 0 in
-      ap (λ (xs : List Cell). record { cells = xs; used = q .used; operators = q .operators; height = q .height; held = q .held; missing = q .missing })
-      (ext-getD d cs (cellsIn m) (l ∙ sym (length-cells m)) (λ i k. h i (omega arith) ∙ sym (cell-is m i d (omega arith))))
-
-  pub one-taken : (c : Cell) → c ≡ cellIn m j → j < 193 → Taken m (set cs j c) (j + 1)
-  one-taken c e k i b = go (ℕ-discrete i j)
-    where
-      go : Dec (i ≡ j) → getD (set cs j c) i (cell 0 0 0 0) ≡ cellIn m i
-      go (yes q) = ap (λ n. getD (set cs j c) n (cell 0 0 0 0)) q ∙ getD-set-same cs j c (cell 0 0 0 0) (omega arith) ∙ e ∙ ap (cellIn m) (sym q)
-      go (no n) = getD-set-other cs j i c (cell 0 0 0 0) n ∙ h i (omega arith)
-
-module _ (m : List ℕ) (i : ℕ) (c : Cell) (h : i < 193) (room : 772 ≤ length m) where
-  cells-put : cellsIn (withCell m i c) ≡ set (cellsIn m) i c
-  cells-put =
-      let d : Cell = cell 0 0 0 0 in
-      ext-getD d (cellsIn (withCell m i c)) (set (cellsIn m) i c) (length-cells (withCell m i c) ∙ sym (length-set (cellsIn m) i c ∙ length-cells m))
-      (λ j l. cell-is (withCell m i c) j d (omega (arith, length-cells (withCell m i c)))
-      ∙ go j (omega (arith, length-cells (withCell m i c))) (ℕ-discrete j i))
-    where
-      go : (j : ℕ) → j < 193 → Dec (j ≡ i) → cellIn (withCell m i c) j ≡ getD (set (cellsIn m) i c) j (cell 0 0 0 0)
-      go j l (yes e) = rw e (put-here m i c (omega arith) ∙ sym (getD-set-same (cellsIn m) i c (cell 0 0 0 0) (omega (arith, length-cells m))))
-      go j l (no n) = put-elsewhere m i c j n ∙ sym (getD-set-other (cellsIn m) i j c (cell 0 0 0 0) n ∙ cell-is m j (cell 0 0 0 0) l)
-
--- ---- one step more
-
-module _ (m : List ℕ) (q : Drawn) (c : Cell) {h d o : ℕ} (x : h ≡ heightAfter (q .height) (c .kind)) (y : d ≡ max (q .held) h)
-    (z : o ≡ operatorsAfter (q .operators) (c .kind)) where
-  pub put-stored : (m′ : List ℕ) → q .used < 193 → 772 ≤ length m → m′ ≡ withCell m (q .used) c → _≡_ {A = Program}
-      (programIn m′ record { used = q .used + 1; operators = o; height = h; held = d; missing = q .missing }) (stored (programIn m q) c)
-  put-stored m′ l room e =
-      ap (λ cs. record { cells = cs; used = q .used + 1; operators = o; height = h; held = d; missing = q .missing })
-      (ap cellsIn e ∙ cells-put m (q .used) c l room) ∙ put-more (programIn m q) c x y z l
-
-  pub full-stored : 193 ≤ q .used → _≡_ {A = Program}
-      (programIn m record { used = q .used; operators = o; height = h; held = d; missing = q .missing }) (stored (programIn m q) c)
-  full-stored l = put-full (programIn m q) c x y z l
+  -- d has the number of the name, and l is the first place at which one is missing
+  pub named-stored : {v : Option ℕ} {m : ℕ} {d : Cell} {l : Place} → v ≡ number k n → m ≡ place v → d ≡ withNumber c m → l ≡ placeAfter (p .missing) v i
+      → stored (record { cells = p .cells; used = p .used; operators = p .operators; missing = l }) d
+      ≡ emitName number k n i c p
+  unfolding emitName
+  named-stored found-is number-is cell-is place-is =
+      ap₂ stored
+      (ap (λ (v : Place). record { cells = p .cells; used = p .used; operators = p .operators; missing = v })
+      (place-is ∙ ap (λ (u : Option ℕ). placeAfter (p .missing) u i) found-is) ∙ noted-is (number k n) i p)
+      (cell-is ∙ ap (withNumber c) (number-is ∙ ap place found-is))

@@ -3,7 +3,7 @@ use mathlib.Core.Path.{_≡_, sym, _∙_}
 use Prim.Native.Nat.{_+_, _*_, _-_}
 use native.Mathlib.Omega.{arith}
 use Rattle.plans.proofs.Sets.{accesses-total}
-use Rattle.composer.proofs.Turn.{closed-at}
+use Rattle.composer.proofs.Runs.{closed-at}
 use borrow.Author.Needs.{needs}
 use Rattle.composer.proofs.close_set.Statement.{statement}
 use Rattle.composer.proofs.close_set.Tie as tie
@@ -24,7 +24,10 @@ part-closure-end : tie.Need-part-closure-end
 part-closure-end c = search needs
 
 closure-requires : tie.Need-closure-requires
-closure-requires c κs = search needs
+closure-requires c κs =
+    let pre = c .before .before .before .before .before .pre in
+    let z = pre .1 in
+    (record { sized = z .sized; set = search needs; table = z .table; few = z .few; sits = z .sits }, pre .0 .1)
 
 same-length : tie.Need-same-length
 same-length c = search needs
@@ -32,12 +35,12 @@ same-length c = search needs
 returns : tie.Need-returns
 returns c =
     let closure = c .before .before .closure in
-    let start = c .before .before .before .before .before .before in
+    let start = c .before .before .before .before .before .before .before .before in
     let a = start .args in
-    let m : a .k * 4096 + a .size - a .k * 4096 ≡ a .size = omega arith in (
+    let m : a .k * 4096 + a .s .size - a .k * 4096 ≡ a .s .size = omega arith in (
       closure .ensures .0,
-      λ fr st. closed-at fr (a .set) (a .limit) (a .k) (a .k * 4096 + a .size - a .k * 4096) (a .w .now) (closure .last .0) _
-          (m ∙ start .pre .1 .set ∙ sym (accesses-total fr (a .n) (a .t .now) (st .stands))) (closure .ensures .1 fr st),
+      λ fr st. closed-at fr (a .set) (a .s .limit) (a .k) (a .k * 4096 + a .s .size - a .k * 4096) (a .w .now) (closure .last .0) _
+          (m ∙ start .pre .1 .set ∙ sym (accesses-total fr (a .s .n) (a .t .now) (st .stands))) (closure .ensures .1 fr st),
     )
 
 pub close-set-spec : {M : Type 1} → statement M

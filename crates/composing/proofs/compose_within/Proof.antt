@@ -6,15 +6,6 @@ use Rattle.composing.proofs.Composing.{not-read, in-result, in-memory, 
 use borrow.Author.Needs.{needs}
 use Rattle.composing.proofs.compose_within.Statement.{statement}
 use Rattle.composing.proofs.compose_within.Tie as tie
-use Rattle.composing.proofs.compose_within.Reads as reads
-use Rattle.composing.proofs.compose_within.Lts as lts
-use Rattle.composer.proofs.accesses.Reads as accesses-reads
-use Rattle.running.proofs.counts_of.Reads as counts-of-reads
-use Rattle.running.proofs.read_within.Reads as read-within-reads
-use Rattle.running.proofs.run_policy.Reads as run-policy-reads
-use Rattle.sets.proofs.copy.Reads as copy-reads
-use Rattle.sets.proofs.count.Reads as count-reads
-use Rattle.composing.proofs.not_composed.Reads as not-composed-reads
 
 read-within-requires : tie.Need-read-within-requires
 read-within-requires c κs = search needs

@@ -1,4 +1,5 @@
--- The readers of an expression's parts, which call each other, meet their contracts. The brackets that may be opened fall, and within one bracket the calls are in order.
+-- The readers of an expression's parts, which call each other, meet their contracts. The brackets that may be opened fall,
+-- and within one bracket the calls are in order.
 use mathlib.Core.Path.{_≡_, refl, _∙_}
 use Rattle.words.specs.Contract.{signCode}
 use Rattle.words.proofs.Words.{seen, n-bounds}
@@ -14,7 +15,7 @@ use lib.ListN.{length}
 use Rattle.names.specs.Entries.{lookupIn}
 use Rattle.words.specs.Contract.{ReadsMore}
 use Prim.Native.Nat.{ℕ, _<_, _+_, _-_, _*_}
-use Rattle.words.specs.Drawn.{programIn}
+use Rattle.words.specs.Cells.{nodesIn}
 use borrow.Fn.Kinds.{In}
 use borrow.Fn.PlainCycle.{Measures, is, falls, and}
 use Rattle.expressions.proofs.expression.Reads as expression
@@ -183,7 +184,7 @@ factor-returns-2 t c =
 
 abbrev more-Inv-loop : more-lts.InvT-loop
 more-Inv-loop m₀ t at allow f starts ends tags counts q₀ i₀ m q i =
-    (length m ≡ length m₀) × ReadsMore (lookupIn f starts ends tags counts) t i₀ allow i (programIn m₀ q₀) (programIn m q)
+    (length m ≡ length m₀) × ReadsMore (lookupIn f starts ends tags counts) t i₀ allow i (nodesIn m₀ q₀) (nodesIn m q)
 
 abbrev more-μ-loop : more-lts.MeasureT-loop
 more-μ-loop m₀ t at allow f starts ends tags counts q₀ i₀ m q i = length t - i

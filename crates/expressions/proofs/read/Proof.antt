@@ -1,5 +1,4 @@
 use Rattle.expressions.proofs.Whole.{r-bad, r-rest, r-whole}
-use Rattle.words.proofs.Puts.{length-cells}
 use mathlib.Core.Path.{refl, sym, _∙_}
 use borrow.Author.Needs.{needs}
 use borrow.Author.Tests.{eqb-true, eqb-false, not-true, not-false}
@@ -11,12 +10,6 @@ slice-aggregate-from-start c = search needs
 
 from-start-requires : tie.Need-from-start-requires
 from-start-requires c κs = search needs
-
-slice-aggregate-program-of : tie.Need-slice-aggregate-program-of
-slice-aggregate-program-of c = search needs
-
-program-of-requires : tie.Need-program-of-requires
-program-of-requires c κs = search needs
 
 enum-known-k : tie.Need-enum-known-k
 enum-known-k c = search needs
@@ -30,22 +23,21 @@ ends-at-requires c κs = search needs
 returns : tie.Need-returns
 returns c =
     let c3 = c .before .before .before in
-    let c9 = c3 .before .before .before .before .before .before in
-    r-rest _ _ _ _ (c3 .k2 .given .1) (c9 .from-start .ensures) _ (eqb-false _ _ (sym (c .before .ends-at .ensures) ∙ not-true _ (c .if1 .taken)))
+    let c7 = c3 .before .before .before .before in
+    r-rest _ _ _ _ (c3 .k2 .given .1) (c7 .from-start .ensures) _ (eqb-false _ _ (sym (c .before .ends-at .ensures) ∙ not-true _ (c .if1 .taken)))
 
 returns-2 : tie.Need-returns-2
 returns-2 c =
-    let c7 = c .before .before .before .before .before .before .before in
-    r-bad _ _ _ _ _ (c .before .k .given .1) (c7 .from-start .ensures)
+    let c5 = c .before .before .before .before .before in
+    r-bad _ _ _ _ _ (c .before .k .given .1) (c5 .from-start .ensures)
 
 returns-3 : tie.Need-returns-3
 returns-3 c =
     let c3 = c .before .before .before in
-    let c9 = c3 .before .before .before .before .before .before in
-    let start = c9 .before .before .before .before .before .before .before in
-    r-whole _ _ _ _ (c3 .k2 .given .1) (c9 .from-start .ensures) _ (c3 .before .before .program-of .ensures)
-    record { room = length-cells _; no-cells = refl; no-operators = refl; no-height = refl; no-held = refl; no-place = refl } (start .pre .1)
-    (eqb-true _ _ (sym (c .before .ends-at .ensures) ∙ not-false _ (c .if1 .left)))
+    let c7 = c3 .before .before .before .before in
+    let start = c7 .before .before .before .before .before .before .before in
+    r-whole _ _ _ _ (c3 .k2 .given .1) (c7 .from-start .ensures) _ refl record { room = refl; no-cells = refl; no-operators = refl; no-place = refl }
+    (start .pre .1) (eqb-true _ _ (sym (c .before .ends-at .ensures) ∙ not-false _ (c .if1 .left)))
 
 pub read-spec : {M : Type 1} → statement M
 read-spec =
@@ -53,8 +45,6 @@ read-spec =
     (tie.spec
     slice-aggregate-from-start
     from-start-requires
-    slice-aggregate-program-of
-    program-of-requires
     enum-known-k
     enum-known-k-2
     ends-at-requires

@@ -1,4 +1,4 @@
--- The cells in the slice, with what is known of them, are the program of the suffixes passed.
+-- The cells in the slice, with what is known of them, are the nodes of the suffixes passed.
 use mathlib.Core.Path.{_≡_, refl, sym, _∙_}
 use Prim.Native.Nat.{_-_}
 use native.Mathlib.Omega.{arith}
@@ -6,8 +6,8 @@ use lib.ListN.{length}
 use borrow.Author.Needs.{needs}
 use Rattle.names.specs.Entries.{lookupIn}
 use Rattle.words.specs.Contract.{suffixByte, ReadsSuffixes}
-use Rattle.words.specs.Drawn.{programIn}
-use Rattle.words.proofs.Programs.{settled-named}
+use Rattle.words.specs.Cells.{nodesIn}
+use Rattle.words.proofs.Puts.{settled-named}
 use Rattle.words.proofs.Words.{seen}
 use Rattle.expressions.proofs.SuffixWays.{xs-first, xs-end, xs-bad, xs-in, xs-past, xs-next}
 use Rattle.expressions.proofs.suffixes.Statement.{statement}
@@ -15,7 +15,7 @@ use Rattle.expressions.proofs.suffixes.Tie as tie
 
 abbrev Inv-loop : tie.InvT-loop
 Inv-loop m₀ t at f starts ends tags counts p q₀ i₀ m q i =
-    (length m ≡ length m₀) × ReadsSuffixes (lookupIn f starts ends tags counts) t i₀ i (programIn m₀ p) (programIn m q)
+    (length m ≡ length m₀) × ReadsSuffixes (lookupIn f starts ends tags counts) t i₀ i (nodesIn m₀ p) (nodesIn m q)
 
 abbrev μ-loop : tie.MeasureT-loop
 μ-loop m₀ t at f starts ends tags counts p q₀ i₀ m q i = length t - i

@@ -1,5 +1,6 @@
 use mathlib.Core.Path.{sym, _∙_}
-use Rattle.goals.proofs.Goals.{told-part, goal-4, goal-8, goal-7, goal-12, goal-13, goal-held, goal-operators, goal-good}
+use Rattle.goals.proofs.Goals.{told-part, has-tree, goal-4, goal-8, goal-7, goal-12, goal-13, goal-held, goal-operators, goal-good}
+use native.Mathlib.Omega.{arith}
 use borrow.Author.Needs.{needs}
 use Rattle.goals.proofs.judge_expression.Statement.{statement}
 use Rattle.goals.proofs.judge_expression.Tie as tie
@@ -32,7 +33,7 @@ returns-3 : tie.Need-returns-3
 returns-3 c d ns g =
     let c3 = c .before .before .before in
     goal-7 _ _ _ _ _ d ns _ g _ _ (sym (c3 .before .before .late .ensures) ∙ c3 .before .if1 .left)
-    (sym (c3 .bad-counts .ensures) ∙ c .before .before .if2 .left) (c .before .if3 .taken) _ (c .refused3 .ensures)
+    (sym (c3 .bad-counts .ensures) ∙ c .before .before .if2 .left) (omega (arith, c .before .if3 .taken)) _ (c .refused3 .ensures)
 
 sub-text : tie.Need-sub-text
 sub-text c = search needs
@@ -60,57 +61,87 @@ enum-told c = search needs
 
 returns-4 : tie.Need-returns-4
 returns-4 c d ns g =
-    let c5 = c .before .before .before .before .before in
-    let c8 = c5 .before .before .before in
-    let c11 = c8 .before .before .before in
-    let c14 = c11 .before .before .before in
-    let start = c14 .before .before .before .before .before in
-    goal-held _ _ _ _ _ d ns _ g _ _ (sym (c14 .late .ensures) ∙ c11 .before .before .if1 .left) (sym (c11 .before .bad-counts .ensures) ∙ c11 .if2 .left)
-    (c8 .before .before .if3 .left) _ (told-part _ _ _ _ _ (start .pre .1 .order) (c8 .read .ensures)) (c5 .answer2 .given .1)
-    (c .before .before .enum-told .given .1) (c .if4 .taken) _
+    let c1 = c .before in
+    let c4 = c1 .before .before .before in
+    let c7 = c4 .before .before .before in
+    let c9 = c7 .before .before in
+    let c10 = c9 .before in
+    let c11 = c10 .before in
+    let c12 = c11 .before in
+    let c13 = c12 .before in
+    let start = c13 .before .before .before .before .before in
+    goal-operators _ _ _ _ _ d ns _ g _ _ (sym (c13 .late .ensures) ∙ c12 .if1 .left) (sym (c11 .bad-counts .ensures) ∙ c10 .if2 .left)
+    (omega (arith, c9 .if3 .left)) _ (told-part _ _ _ _ (start .pre .1) (c7 .read .ensures)) (c4 .answer2 .given .1) (c1 .enum-told .given .1)
+    (omega (arith, c .if4 .taken)) _
+
+sets-held-requires : tie.Need-sets-held-requires
+sets-held-requires c κs =
+    let c3 = c .before .before .before in
+    let c7 = c3 .before .before .before .before in
+    let c10 = c7 .before .before .before in
+    has-tree _ _ _ (c10 .read .ensures) (c7 .answer2 .given .1) (omega (arith, c3 .if4 .left))
+
+-- what is accepted stands before what is refused: where a bound is raised, this is the fact that fails
+returns-8 : tie.Need-returns-8
+returns-8 c d ns g =
+    let c2 = c .before .before in
+    let c6 = c2 .before .before .before .before in
+    let c7 = c6 .before in
+    let c10 = c7 .before .before .before in
+    let c13 = c10 .before .before .before in
+    let c15 = c13 .before .before in
+    let c16 = c15 .before in
+    let c17 = c16 .before in
+    let c18 = c17 .before in
+    let c19 = c18 .before in
+    let start = c19 .before .before .before .before .before in
+    goal-good _ _ _ _ _ d ns _ g _ _ (sym (c19 .late .ensures) ∙ c18 .if1 .left) (sym (c17 .bad-counts .ensures) ∙ c16 .if2 .left)
+    (omega (arith, c15 .if3 .left)) _ (told-part _ _ _ _ (start .pre .1) (c13 .read .ensures)) (c10 .answer2 .given .1) (c7 .enum-told .given .1)
+    (omega (arith, c6 .if4 .left)) (c2 .sets-held .result) (c2 .sets-held .ensures) (omega (arith, c .if5 .left))
 
 returns-5 : tie.Need-returns-5
 returns-5 c d ns g =
-    let c4 = c .before .before .before .before in
-    let c7 = c4 .before .before .before in
+    let c2 = c .before .before in
+    let c6 = c2 .before .before .before .before in
+    let c7 = c6 .before in
     let c10 = c7 .before .before .before in
     let c13 = c10 .before .before .before in
-    let c16 = c13 .before .before .before in
-    let start = c16 .before .before .before .before .before in
-    goal-operators _ _ _ _ _ d ns _ g _ _ (sym (c16 .late .ensures) ∙ c13 .before .before .if1 .left) (sym (c13 .before .bad-counts .ensures) ∙ c13 .if2 .left)
-    (c10 .before .before .if3 .left) _ (told-part _ _ _ _ _ (start .pre .1 .order) (c10 .read .ensures)) (c7 .answer2 .given .1) (c4 .enum-told .given .1)
-    (c .before .before .if4 .left) (c .if5 .taken) _
+    let c15 = c13 .before .before in
+    let c16 = c15 .before in
+    let c17 = c16 .before in
+    let c18 = c17 .before in
+    let c19 = c18 .before in
+    let start = c19 .before .before .before .before .before in
+    goal-held _ _ _ _ _ d ns _ g _ _ (sym (c19 .late .ensures) ∙ c18 .if1 .left) (sym (c17 .bad-counts .ensures) ∙ c16 .if2 .left)
+    (omega (arith, c15 .if3 .left)) _ (told-part _ _ _ _ (start .pre .1) (c13 .read .ensures)) (c10 .answer2 .given .1) (c7 .enum-told .given .1)
+    (omega (arith, c6 .if4 .left)) (c2 .sets-held .result) (c2 .sets-held .ensures) (omega (arith, c .if5 .taken)) _
 
 returns-6 : tie.Need-returns-6
 returns-6 c d ns g =
-    let c4 = c .before .before .before .before in
-    let c7 = c4 .before .before .before in
-    let c10 = c7 .before .before .before in
+    let c1 = c .before in
+    let c4 = c1 .before .before .before in
+    let c6 = c4 .before .before in
+    let c7 = c6 .before in
+    let c8 = c7 .before in
+    let c9 = c8 .before in
+    let c10 = c9 .before in
     let start = c10 .before .before .before .before .before in
-    goal-12 _ _ _ _ _ d ns _ g _ _ (sym (c10 .late .ensures) ∙ c7 .before .before .if1 .left) (sym (c7 .before .bad-counts .ensures) ∙ c7 .if2 .left)
-    (c4 .before .before .if3 .left) _ (told-part _ _ _ _ _ (start .pre .1 .order) (c4 .read .ensures)) (c .before .answer .given .1) _
+    goal-12 _ _ _ _ _ d ns _ g _ _ (sym (c10 .late .ensures) ∙ c9 .if1 .left) (sym (c8 .bad-counts .ensures) ∙ c7 .if2 .left)
+    (omega (arith, c6 .if3 .left)) _ (told-part _ _ _ _ (start .pre .1) (c4 .read .ensures)) (c1 .answer .given .1) _
 
 returns-7 : tie.Need-returns-7
 returns-7 c d ns g =
-    let c4 = c .before .before .before .before in
+    let c1 = c .before in
+    let c4 = c1 .before .before .before in
     let c7 = c4 .before .before .before in
-    let c10 = c7 .before .before .before in
-    let c13 = c10 .before .before .before in
+    let c9 = c7 .before .before in
+    let c10 = c9 .before in
+    let c11 = c10 .before in
+    let c12 = c11 .before in
+    let c13 = c12 .before in
     let start = c13 .before .before .before .before .before in
-    goal-13 _ _ _ _ _ d ns _ g _ _ (sym (c13 .late .ensures) ∙ c10 .before .before .if1 .left) (sym (c10 .before .bad-counts .ensures) ∙ c10 .if2 .left)
-    (c7 .before .before .if3 .left) _ (told-part _ _ _ _ _ (start .pre .1 .order) (c7 .read .ensures)) (c4 .answer2 .given .1) (c .before .missing .given .1) _
-
-returns-8 : tie.Need-returns-8
-returns-8 c d ns g =
-    let c4 = c .before .before .before .before in
-    let c7 = c4 .before .before .before in
-    let c10 = c7 .before .before .before in
-    let c13 = c10 .before .before .before in
-    let c16 = c13 .before .before .before in
-    let start = c16 .before .before .before .before .before in
-    goal-good _ _ _ _ _ d ns _ g _ _ (sym (c16 .late .ensures) ∙ c13 .before .before .if1 .left) (sym (c13 .before .bad-counts .ensures) ∙ c13 .if2 .left)
-    (c10 .before .before .if3 .left) _ (told-part _ _ _ _ _ (start .pre .1 .order) (c10 .read .ensures)) (c7 .answer2 .given .1) (c4 .enum-told .given .1)
-    (c .before .before .if4 .left) (c .if5 .left)
+    goal-13 _ _ _ _ _ d ns _ g _ _ (sym (c13 .late .ensures) ∙ c12 .if1 .left) (sym (c11 .bad-counts .ensures) ∙ c10 .if2 .left)
+    (omega (arith, c9 .if3 .left)) _ (told-part _ _ _ _ (start .pre .1) (c7 .read .ensures)) (c4 .answer2 .given .1) (c1 .missing .given .1) _
 
 pub judge-expression-spec : {M : Type 1} → statement M
 judge-expression-spec =
@@ -133,6 +164,7 @@ judge-expression-spec =
     enum-known-missing
     enum-told
     returns-4
+    sets-held-requires
     returns-5
     returns-6
     returns-7

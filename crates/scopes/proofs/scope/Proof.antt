@@ -12,16 +12,18 @@ use Rattle.scopes.proofs.scope.Statement.{statement}
 use Rattle.scopes.proofs.scope.Tie as tie
 
 abbrev Inv-actions : tie.InvT-actions
-Inv-actions w₀ k t z c at subjects objects actions s o a₀ w a = (a ≤ actions) × (length w ≡ length w₀) × Each z t c (λ p. w ≡ turns a (byAction p k z s o) w₀)
+Inv-actions w₀ k t z c at subjects objects actions s s′ o o′ a₀ w a =
+    (a ≤ actions) × (length w ≡ length w₀) × Each z t c (λ p. w ≡ turns a (byAction p k z s o) w₀)
 
 abbrev μ-actions : tie.MeasureT-actions
-μ-actions w₀ k t z c at subjects objects actions s o a₀ w a = actions - a
+μ-actions w₀ k t z c at subjects objects actions s s′ o o′ a₀ w a = actions - a
 
 abbrev Inv-objects : tie.InvT-objects
-Inv-objects w₀ k t z c at subjects objects actions s o₀ w o = (o ≤ objects) × (length w ≡ length w₀) × Each z t c (λ p. w ≡ turns o (byObject p k z s) w₀)
+Inv-objects w₀ k t z c at subjects objects actions s s′ o₀ w o =
+    (o ≤ objects) × (length w ≡ length w₀) × Each z t c (λ p. w ≡ turns o (byObject p k z s) w₀)
 
 abbrev μ-objects : tie.MeasureT-objects
-μ-objects w₀ k t z c at subjects objects actions s o₀ w o = objects - o
+μ-objects w₀ k t z c at subjects objects actions s s′ o₀ w o = objects - o
 
 abbrev Inv-subjects : tie.InvT-subjects
 Inv-subjects w₀ k t z c at subjects objects actions s₀ w s = (s ≤ subjects) × (length w ≡ length w₀) × Each z t c (λ p. w ≡ turns s (bySubject p k z) w₀)

@@ -46,7 +46,7 @@ use denote.Triple.Walked.{says, needs, Stays, stay-dropped, gave-slice, walkOf, 
 use denote.Exit.{yes}
 use denote.Triple.Clauses.{ensured, Lasts, lasts}
 use Rattle.words.specs.Contract.{ExpressionAt}
-use Rattle.words.specs.Drawn.{programIn}
+use Rattle.words.specs.Cells.{nodesIn}
 use Rattle.names.specs.Entries.{Sound, lookupIn}
 use Rattle.expressions.specs.declared.text_reader.Reader.{Reader}
 use Rattle.names.specs.declared.NameCounts.{NameCounts}
@@ -136,7 +136,7 @@ module _ {M : Type 1} (𝓤 : URA M) (H : Heap 𝓤) (A : Atoms 𝓤) (W : Given
   -- what is said of the result and of the slice's last list
   abbrev Found : Passed → List ℕ → Type 0
   Found r zs =
-      ExpressionAt (lookupIn (now f) (now ss) (now es) (now ts) c) (now (d .text)) (d .at) n (programIn (now x) p) (programIn zs (r .drawn)) (r .answer)
+      ExpressionAt (lookupIn (now f) (now ss) (now es) (now ts) c) (now (d .text)) (d .at) n (nodesIn (now x) p) (nodesIn zs (r .drawn)) (r .answer)
 
   abbrev Ok : Type 0
   Ok = Sound (now f) (now ss) (now es) (now ts) c × (d .at ≤ length (now (d .text))) × (772 ≤ length (now x))

@@ -3,11 +3,15 @@ use Rattle.snowdell.proofs.Numbers.{room-no, decide-hands}
 use borrow.Author.Needs.{needs}
 use Rattle.snowdell.proofs.exports.snowdell_decide.Statement.{statement}
 use Rattle.snowdell.proofs.exports.snowdell_decide.Tie as tie
-use Rattle.snowdell.proofs.exports.snowdell_decide.Reads as reads
-use Rattle.snowdell.proofs.exports.snowdell_decide.Lts as lts
-use Rattle.snowdell.proofs.decide.Reads as decide-reads
-use Rattle.snowdell.proofs.exports.hand.Reads as hand-reads
-use Rattle.snowdell.proofs.exports.wide.Reads as wide-reads
+
+-- before `returns`: a call that runs without room for its numbers fails here
+returns-2 : tie.Need-returns-2
+returns-2 c =
+    let c5 = c .before .before .before .before .before in
+    let c9 = c5 .before .before .before .before in
+    let start = c9 .before .before .before .before .before .before .before .before .before in
+    decide-hands _ _ _ _ _ _ _ (start .args .w .now) (c9 .before .before .if1 .left) (c5 .before .wide .ensures) (c5 .wide2 .ensures) (c9 .decide .ensures .0)
+    (c .before .before .hand .ensures)
 
 returns : tie.Need-returns
 returns c = (hands-nothing _ _ (c .if1 .taken), room-no 5 _ _ _ (c .if1 .taken))
@@ -32,14 +36,6 @@ same-length c = search needs
 
 same-length-2 : tie.Need-same-length-2
 same-length-2 c = search needs
-
-returns-2 : tie.Need-returns-2
-returns-2 c =
-    let c5 = c .before .before .before .before .before in
-    let c9 = c5 .before .before .before .before in
-    let start = c9 .before .before .before .before .before .before .before .before .before in
-    decide-hands _ _ _ _ _ _ _ (start .args .w .now) (c9 .before .before .if1 .left) (c5 .before .wide .ensures) (c5 .wide2 .ensures) (c9 .decide .ensures .0)
-    (c .before .before .hand .ensures)
 
 pub snowdell-decide-spec : {M : Type 1} → statement M
 snowdell-decide-spec =

@@ -1,0 +1,2 @@
+-- The definitions that the contracts cite: a node as four numbers of a slice.
+pub mod Cells
