@@ -6,6 +6,10 @@
  * The proof takes this for granted, and nothing checks it here: every pointer is not null and points to as many bytes, or
  * aligned numbers, as its length says, all of them initialised; what is written to (result, memory, numbers) overlaps
  * nothing else that is passed; and no other thread uses it during the call.
+ *
+ * The thread that calls needs a stack, whatever the input: snowdell_check at most 128 KiB, snowdell_compose and snowdell_decide
+ * at most 256 KiB. That is tested (tests/stack.rs) and not proved. A stack that is too small ends the process with a fault at
+ * the guard page below it, if the thread has one; a thread made by hand needs one too.
  */
 #ifndef SNOWDELL_H
 #define SNOWDELL_H
@@ -15,6 +19,8 @@
 
 #define SNOWDELL_RESULT 4096
 #define SNOWDELL_MEMORY 65536
+#define SNOWDELL_CHECK_STACK 131072
+#define SNOWDELL_STACK 262144
 
 /* 6 numbers: number, line, place, subjects, objects, actions */
 void snowdell_check(const uint8_t *file, size_t file_len, size_t *numbers, size_t numbers_len);
