@@ -15,7 +15,7 @@ use Rattle.algebra.specs.StoredFrame.{Stands}
 use Rattle.algebra.specs.declared.Counts.{Counts}
 use Rattle.scopes.specs.Scopes.{storedScope, Coded, Names}
 use Rattle.scopes.specs.declared.StoredScope.{StoredScope}
-use Rattle.scopes.proofs.Scopes.{stored-compared}
+use Rattle.scopes.proofs.Scopes.{stored-mark, stored-compared}
 use Rattle.nodes.specs.Cells.{scopeIn}
 use Rattle.nodes.specs.declared.Cell.{Cell}
 use Rattle.composer.specs.Compose.{Fits}
@@ -25,10 +25,6 @@ use Rattle.composer.specs.Compose.{Fits}
 -- what the scope of a node is
 abbrev pub ScopeIs : Cell → StoredScope → Type 0
 ScopeIs c s = (s .kind ≡ cond (eqb (c .kind) 6) 6 (c .op)) × (s .sort ≡ c .sort) × (s .x ≡ c .number)
-
-stored-marked : (s : StoredScope) → s .kind ≡ 6 → storedScope s ≡ marked (storedSort (s .sort)) (s .x)
-unfolding storedScope
-stored-marked s e = rw (eq-eqb (s .kind) 6 e, storedScope)
 
 in-marked : (c : Cell) → c .kind ≡ 6 → scopeIn c ≡ marked (storedSort (c .sort)) (c .number)
 unfolding scopeIn
@@ -63,7 +59,7 @@ module _ (n : Counts) (c : Cell) (s : StoredScope) (f : Fits n c) (least : 5 ≤
           in-compared c (λ q. omega arith) ∙ sym (stored-compared s (λ q. omega arith) ∙ rw (k, is .1, is .2))
       go (no r) =
           let e : c .kind ≡ 6 = omega arith in
-          in-marked c e ∙ sym (stored-marked s (is .0 ∙ rw e) ∙ rw (is .1, is .2))
+          in-marked c e ∙ sym (stored-mark s (is .0 ∙ rw e) ∙ rw (is .1, is .2))
 
   pub scope-names : (fr : Frame) (t : List ℕ) → Stands fr n t → Names fr (storedScope s)
   unfolding Names
@@ -76,7 +72,7 @@ module _ (n : Counts) (c : Cell) (s : StoredScope) (f : Fits n c) (least : 5 ≤
           rw (stored-compared s (λ q. omega arith), is .1, is .2, st .counts (storedSort (c .sort))) (m .3)
       go (no r) =
           let e : c .kind ≡ 6 = omega arith in
-          rw (stored-marked s (is .0 ∙ rw e), is .2) (f .predicate e .1)
+          rw (stored-mark s (is .0 ∙ rw e), is .2) (f .predicate e .1)
 
 -- ---- products of bytes
 

@@ -1,6 +1,6 @@
 -- The ways through the readers of primaries, factors and expressions. Assumes nothing.
 use mathlib.Core.Path.{_≡_, refl, sym, ap, subst, _∙_}
-use mathlib.Core.Bool.{Bool, true, false, cond, _||_, false≢true}
+use mathlib.Core.Bool.{Bool, true, false, cond, _||_}
 use mathlib.Core.List.{List, [], _∷_, _++_}
 use mathlib.Core.Option.{Option, none, some}
 use Prim.Native.Nat.{ℕ, suc, _+_, _-_, _≤_, _<_}
@@ -10,6 +10,7 @@ use lib.ListN.{length, getD, drop, length-append}
 use lib.Seq.{slice, length-slice}
 use borrow.Author.Tests.{eq-eqb, ne-eqb, eqb-true}
 use Rattle.algebra.specs.Sort.{Sort, subject, object, action}
+use Rattle.algebra.proofs.Bool.{or-none}
 use Rattle.grammar.specs.Name.{isLetter, sortWord}
 use Rattle.algebra.specs.Answer.{Joiner, plus-sign, and-sign, minus-sign}
 use Rattle.grammar.specs.Expression.{Exp, Fac, plain, table-name, bracket, override, byteJ, textE, textF, textP}
@@ -30,10 +31,6 @@ use Rattle.grammar.proofs.Complete.{joiner-step}
 use Rattle.words.proofs.Words.{code-none, code-some, begins-word, the-word}
 
 -- ---- signs and delimiters
-both-false : (x y : Bool) → (x || y) ≡ false → (x ≡ false) × (y ≡ false)
-both-false true y e = absurd (false≢true (sym e))
-both-false false y e = (refl, e)
-
 pub cond-same : (t : Bool) → cond {A = Option State} t none none ≡ none
 cond-same true = refl
 cond-same false = refl
@@ -48,7 +45,7 @@ delims a ks l f b s o = go (eqb b 43) (eqb b 38) (eqb b 45) refl refl refl o
     go true y z p q r h = absurd (omega arith)
     go false true z p q r h = absurd (omega arith)
     go false false true p q r h = absurd (omega arith)
-    go false false false p q r h = let x = both-false (eqb b 94) (eqb b 42) s in rw (x .0, x .1, p, q, r)
+    go false false false p q r h = let x = or-none (eqb b 94) (eqb b 42) s in rw (x .0, x .1, p, q, r)
 
 sign-of : (b : ℕ) → (signCode b ≡ 0 → ⊥) → (j : Joiner) × (b ≡ byteJ j) × (signCode b ≡ signNumber j)
 unfolding signCode byteJ signNumber

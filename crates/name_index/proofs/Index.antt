@@ -13,7 +13,8 @@ use Rattle.grammar.specs.Lookup.{same, position}
 use Rattle.grammar.proofs.Lookup.{same-refl, position-fails}
 use Rattle.name_index.specs.Hash.{slotOf}
 use Rattle.name_index.specs.Index.{after, freeFrom, freeSlot, put, indexFrom, index, lookUp, Distinct}
-use Rattle.name_index.proofs.Runs.{Taken, Reached, Indexes, tally-set, more-taken, run-short}
+use Rattle.algebra.proofs.Bytes.{tally-set}
+use Rattle.name_index.proofs.Runs.{Taken, Reached, Indexes, more-taken, run-short}
 use Rattle.name_index.proofs.Hash.{slot-lt}
 use Rattle.name_index.proofs.Search.{search-finds, search-reads}
 
@@ -126,7 +127,7 @@ module _ (names : List (List ℕ)) (n : List ℕ) where
             few = omega (arith, last-length);
             distinct = more-distinct (I .distinct) f;
             known = λ i. omega (arith, last-length, known i);
-            free = omega (arith, last-length, I .free, tally-set slots _ (suc (length names)) low (F .free) (omega arith));
+            free = omega (arith, last-length, I .free, tally-set slots _ (suc (length names)) low (F .free) (λ e. omega arith));
             reached = λ m h. reached m (omega (arith, last-length));
           }
 

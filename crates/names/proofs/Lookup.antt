@@ -14,6 +14,7 @@ use Rattle.algebra.specs.Stored.{storedSort}
 use Rattle.grammar.specs.Lookup.{same, positionFrom, position}
 use Rattle.grammar.specs.Names.{Kind, table, rule-set, member, predicate}
 use Rattle.algebra.proofs.Lists.{length-tabFrom}
+use Rattle.algebra.proofs.Stored.{sort-zero, sort-one, sort-other}
 use Rattle.name_index.specs.Index.{search}
 use Rattle.name_index.specs.Parts.{nameAt, namesAt, Parts, slotsAt, Slots, putAt, foundOf, lookedOf, LooksUp}
 use Rattle.name_index.specs.declared.Lookup.{Lookup}
@@ -94,18 +95,6 @@ unfolding sortNumber storedSort
 stored-sort subject = refl
 stored-sort object = refl
 stored-sort action = refl
-
-pub sort-zero : (s : ℕ) → s ≡ 0 → storedSort s ≡ subject
-unfolding storedSort
-sort-zero s h = rw (storedSort, eq-eqb s 0 h)
-
-pub sort-one : (s : ℕ) → s ≡ 1 → storedSort s ≡ object
-unfolding storedSort
-sort-one s h = rw h
-
-pub sort-other : (s : ℕ) → (s ≡ 0 → ⊥) → (s ≡ 1 → ⊥) → storedSort s ≡ action
-unfolding storedSort
-sort-other s h k = rw (storedSort, ne-eqb s 0 h, ne-eqb s 1 k)
 
 -- ---- a name as what it is asked for
 

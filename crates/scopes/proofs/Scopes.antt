@@ -10,6 +10,7 @@ use native.Mathlib.Omega.{arith}
 use lib.Dec.{eqb}
 use lib.ListN.{length, getD, set}
 use borrow.Author.Tests.{eq-eqb, ne-eqb}
+use Rattle.algebra.proofs.Bool.{flag-one}
 use Rattle.algebra.specs.Sort.{Sort, subject, object, action}
 use Rattle.algebra.specs.Answer.{Answer, byte, keep}
 use Rattle.algebra.specs.Order.{Op, le, ge, lt, gt, eq, below, compares}
@@ -65,10 +66,6 @@ table-at (suc zero) h = refl
 table-at (suc (suc zero)) h = refl
 table-at (suc (suc (suc n))) h = absurd (omega arith)
 
-flag-one : (b : Bool) → eqb (cond b 1 0) 1 ≡ b
-flag-one true = refl
-flag-one false = refl
-
 flag-some : (b : Bool) → not (eqb (cond b 1 0) 0) ≡ b
 flag-some true = refl
 flag-some false = refl
@@ -90,7 +87,7 @@ order-lt ps x y = go (ℕ-discrete x y)
     go (yes e) = rw (eq-eqb x y e, orderByte) (sym (and-false (below ps x y)))
     go (no n) = rw (ne-eqb x y n, orderByte) (flag-one (below ps x y) ∙ sym (and-true (below ps x y)))
 
-stored-mark : (c : StoredScope) → c .kind ≡ 6 → storedScope c ≡ marked (storedSort (c .sort)) (c .x)
+pub stored-mark : (c : StoredScope) → c .kind ≡ 6 → storedScope c ≡ marked (storedSort (c .sort)) (c .x)
 unfolding storedScope
 stored-mark c e = rw (eq-eqb (c .kind) 6 e, storedScope)
 

@@ -9,6 +9,7 @@ use lib.ListN.{length, getD, List·getD-map}
 use lib.Seq.{slice}
 use Rattle.algebra.specs.Sort.{Sort, subject, object, action}
 use Rattle.algebra.specs.Stored.{storedSort}
+use Rattle.algebra.proofs.Bool.{or-none}
 use Rattle.algebra.proofs.Lists.{getD-tabFrom}
 use lib.Dec.{ltb}
 use borrow.Author.Tests.{ltb-false}
@@ -24,7 +25,7 @@ use Rattle.state.proofs.NameTables.{lookup-is, count-is, predicates-are
 use Rattle.state.specs.Standing.{flag, Few, NamesStand, Stands, placedOf, moreMembers, moreTables}
 use Rattle.state.specs.Judged.{badCountsOf, MemberJudged, member-refused, member-passes, TableJudged, table-refused, table-passes, LineJudged, line-good}
 use Rattle.state.specs.declared.State.{State}
-use Rattle.names.proofs.Lookup.{sort-zero, sort-one, sort-other}
+use Rattle.algebra.proofs.Stored.{sort-zero, sort-one, sort-other}
 use Rattle.state.proofs.Verdicts.{counts-are as counts-are-of}
 use Rattle.state.proofs.Found.{few-accesses}
 use Rattle.state.proofs.Adding.{table-added}
@@ -72,13 +73,9 @@ member-yes d σ n k (member-refused h) e = absurd (let r = rows-number d (member
 member-yes d σ n k (member-passes a b r) e = record { no-6 = a; is-good = b; room = r }
 
 -- a good line's group comes no earlier than the last one's
-or-left-false : (a b : Bool) → (a || b) ≡ false → a ≡ false
-or-left-false true b e = absurd (false≢true (sym e))
-or-left-false false b e = refl
-
 pub no-earlier : (d : Declared) (l : Line) → outOfOrder d l ≡ false → d .group ≤ groupOf l
 unfolding outOfOrder
-no-earlier d l e = ltb-false (groupOf l) (d .group) (or-left-false (ltb (groupOf l) (d .group)) _ e)
+no-earlier d l e = ltb-false (groupOf l) (d .group) (or-none (ltb (groupOf l) (d .group)) _ e .0)
 
 pub member-early : (d : Declared) (σ : Sort) (n : List ℕ) (p : Option (List ℕ)) → first (rows d (memberLine σ n p)) ≡ good → d .group < 5
 unfolding groupOf
