@@ -118,21 +118,23 @@ module _ (p : Nodes) where
         operators-add = λ l. table-operators m;
       }
 
-  join-operators : (j : Joiner) (p₁ p₂ : Nodes) (l r : Tree Scope)
+  binary-operators : (c : Cell) (p₁ p₂ : Nodes) (l r t′ : Tree Scope) → operators t′ ≡ suc (operators l + operators r)
+      → ((n : ℕ) → operatorsAfter n (c .kind) ≡ countedTo most-count n)
       → (p .operators + operators l ≤ most-count → p₁ .operators ≡ p .operators + operators l)
-      → (p₁ .operators + operators r ≤ most-count → p₂ .operators ≡ p₁ .operators + operators r) → p .operators + operators (join j l r) ≤ most-count
-      → stored p₂ (cell (signNumber j) 0 0 0) .operators ≡ p .operators + operators (join j l r)
-  unfolding stored operators
-  join-operators j p₁ p₂ l r f g z =
+      → (p₁ .operators + operators r ≤ most-count → p₂ .operators ≡ p₁ .operators + operators r) → p .operators + operators t′ ≤ most-count
+      → stored p₂ c .operators ≡ p .operators + operators t′
+  unfolding stored
+  binary-operators c p₁ p₂ l r t′ o ops f g z =
       let a = f (omega arith) in
       let b = g (omega arith) in
-      sign-operators j (p₂ .operators) ∙ one-more (p₂ .operators) (omega arith) ∙ omega arith
+      ops (p₂ .operators) ∙ one-more (p₂ .operators) (omega arith) ∙ omega arith
 
-  counts-join : (j : Joiner) (p₁ p₂ : Nodes) (l r : Tree Scope) → Counts p p₁ l → Counts p₁ p₂ r
-      → Counts p (stored p₂ (cell (signNumber j) 0 0 0)) (join j l r)
-  unfolding size
-  counts-join j p₁ p₂ l r x y =
-      let c = cell (signNumber j) 0 0 0 in
+  -- a node with two parts
+  counts-binary : (c : Cell) (p₁ p₂ : Nodes) (l r t′ : Tree Scope) → size t′ ≡ suc (size l + size r) → operators t′ ≡ suc (operators l + operators r)
+      → ((at at′ : ℕ → Node Scope) (lo mid hi : ℕ) → ((j : ℕ) → j < hi → at′ j ≡ at j) → at′ hi ≡ nodeOf c → Encodes at l lo mid → Encodes at r mid hi
+      → Encodes at′ t′ lo (hi + 1)) → ((n : ℕ) → operatorsAfter n (c .kind) ≡ countedTo most-count n) → Counts p p₁ l → Counts p₁ p₂ r
+      → Counts p (stored p₂ c) t′
+  counts-binary c p₁ p₂ l r t′ s o larger ops x y =
       record {
         long = stored-long p₂ c ∙ y .long ∙ x .long;
         used-is = λ h. let a = x .used-is h in let b = y .used-is (omega arith) in omega (arith, stored-used p₂ c (omega arith));
@@ -144,11 +146,18 @@ module _ (p : Nodes) where
             let a = x .used-is (omega arith) in
             let b = y .used-is (omega arith) in
             ends-at (omega (arith, stored-used p₂ c (omega arith)))
-            (more-join (label (p₂ .cells)) (label (stored p₂ c .cells)) (p₂ .used) (λ k i. ap nodeOf (stored-below p₂ c k i)) j
-            (own-node p₂ c (sign-cell j) (y .long ∙ x .long ∙ h) (omega arith))
+            (larger (label (p₂ .cells)) (label (stored p₂ c .cells)) (p .used) (p₁ .used) (p₂ .used) (λ k i. ap nodeOf (stored-below p₂ c k i))
+            (own-node p₂ c refl (y .long ∙ x .long ∙ h) (omega arith))
             (encodes-same (λ k i q. ap nodeOf (y .before (omega arith) k q)) (x .nodes h (omega arith))) (y .nodes (x .long ∙ h) (omega arith)));
-        operators-add = λ z. join-operators j p₁ p₂ l r (x .operators-add) (y .operators-add) z;
+        operators-add = λ z. binary-operators c p₁ p₂ l r t′ o ops (x .operators-add) (y .operators-add) z;
       }
+
+  counts-join : (j : Joiner) (p₁ p₂ : Nodes) (l r : Tree Scope) → Counts p p₁ l → Counts p₁ p₂ r
+      → Counts p (stored p₂ (cell (signNumber j) 0 0 0)) (join j l r)
+  unfolding size operators
+  counts-join j p₁ p₂ l r x y =
+      counts-binary (cell (signNumber j) 0 0 0) p₁ p₂ l r (join j l r) refl refl (λ at at′ lo mid hi h q. more-join at at′ hi h j (q ∙ sign-cell j))
+      (sign-operators j) x y
 
   override-operators : (p₁ p₂ p₃ : Nodes) (l m r : Tree Scope)
       → (p .operators + operators l ≤ most-count → p₁ .operators ≡ p .operators + operators l)

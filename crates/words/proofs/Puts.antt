@@ -58,14 +58,25 @@ settled-is none i p e = go (p .missing) refl e
     go (At j) q h = rw q
     go Nowhere q h = absurd (false≢true h)
 
+module _ (o : Option ℕ) (i : ℕ) (p : Nodes) where
+  -- once all is settled, a name changes nothing
+  pub settled-stored : (c d : Cell) → c .kind ≡ d .kind → (leb 193 (p .used) && isPlace (p .missing)) ≡ true → stored p c ≡ stored (noted o i p) d
+  settled-stored c d e s =
+      let full = leb-true 193 (p .used) (and-left (leb 193 (p .used)) (isPlace (p .missing)) s) in
+      same-full p c d e full ∙ ap (λ (q : Nodes). stored q d) (sym (settled-is o i p (and-right (leb 193 (p .used)) (isPlace (p .missing)) s)))
+
+  -- l is the first place at which a name is missing, after one with the number v
+  pub noted-stored : {v : Option ℕ} {c d : Cell} {l : Place} → v ≡ o → c ≡ d → l ≡ placeAfter (p .missing) v i
+      → stored (record { cells = p .cells; used = p .used; operators = p .operators; missing = l }) c ≡ stored (noted o i p) d
+  noted-stored found-is cell-is place-is =
+      ap₂ stored
+      (ap (λ (v : Place). record { cells = p .cells; used = p .used; operators = p .operators; missing = v })
+      (place-is ∙ ap (λ (u : Option ℕ). placeAfter (p .missing) u i) found-is) ∙ noted-is o i p) cell-is
+
 module _ (number : Kind → List ℕ → Option ℕ) (k : Kind) (n : List ℕ) (i : ℕ) (c : Cell) (p : Nodes) where
   pub settled-named : (leb 193 (p .used) && isPlace (p .missing)) ≡ true → stored p c ≡ emitName number k n i c p
   unfolding emitName
-  settled-named s =
-      let full = leb-true 193 (p .used) (and-left (leb 193 (p .used)) (isPlace (p .missing)) s) in
-      same-full p c (withNumber c (place (number k n))) refl full
-      ∙ ap (λ (q : Nodes). stored q (withNumber c (place (number k n))))
-      (sym (settled-is (number k n) i p (and-right (leb 193 (p .used)) (isPlace (p .missing)) s)))
+  settled-named s = settled-stored (number k n) i p c (withNumber c (place (number k n))) refl s
 
   -- d has the number of the name, and l is the first place at which one is missing
   pub named-stored : {v : Option ℕ} {m : ℕ} {d : Cell} {l : Place} → v ≡ number k n → m ≡ place v → d ≡ withNumber c m → l ≡ placeAfter (p .missing) v i
@@ -73,7 +84,4 @@ module _ (number : Kind → List ℕ → Option ℕ) (k : Kind) (n : List ℕ) (
       ≡ emitName number k n i c p
   unfolding emitName
   named-stored found-is number-is cell-is place-is =
-      ap₂ stored
-      (ap (λ (v : Place). record { cells = p .cells; used = p .used; operators = p .operators; missing = v })
-      (place-is ∙ ap (λ (u : Option ℕ). placeAfter (p .missing) u i) found-is) ∙ noted-is (number k n) i p)
-      (cell-is ∙ ap (withNumber c) (number-is ∙ ap place found-is))
+      noted-stored (number k n) i p found-is (cell-is ∙ ap (withNumber c) (number-is ∙ ap place found-is)) place-is
