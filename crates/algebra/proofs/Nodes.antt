@@ -1,13 +1,12 @@
 -- Laws of a tree's nodes: how many there are, that nodes elsewhere change nothing, where a part begins, and what a tree's own node says of it.
 use mathlib.Core.Path.{_≡_, refl, ap, subst, _∙_}
-use mathlib.Core.Logic.{inl, inr}
 use Prim.Native.Nat.{ℕ, zero, suc, _+_, _*_, _-_, _≤_, _<_}
 use native.Mathlib.Omega.{arith}
 use native.Mathlib.Numerals.{unary-clauses}
 use Rattle.algebra.specs.Answer.{Joiner}
-use Rattle.algebra.specs.Algebra.{Tree, table, join, override, scope, closure, Uses, operators, held}
-use Rattle.algebra.specs.Nodes.{Node, table-node, join-node, override-node, scope-node, closure-node, parts, size}
-use Rattle.algebra.specs.Nodes.{Encodes, of-table, of-join, of-override, of-scope, of-closure, back}
+use Rattle.algebra.specs.Algebra.{Tree, table, join, override, scope, closure, template, operators, held}
+use Rattle.algebra.specs.Nodes.{Node, table-node, join-node, override-node, scope-node, closure-node, template-node, parts, size}
+use Rattle.algebra.specs.Nodes.{Encodes, of-table, of-join, of-override, of-scope, of-closure, of-template, back}
 
 -- ---- how many nodes there are
 
@@ -19,6 +18,7 @@ size-le (join j l r) = omega (arith, size-le l, size-le r)
 size-le (override p q s) = omega (arith, size-le p, size-le q, size-le s)
 size-le (scope c t) = omega (arith, size-le t)
 size-le (closure R t) = omega (arith, size-le t)
+size-le (template e f) = omega (arith, size-le e, size-le f)
 
 pub some-size : {C : Type 0} (t : Tree C) → 1 ≤ size t
 unfolding size
@@ -27,6 +27,7 @@ some-size (join j l r) = omega arith
 some-size (override p q s) = omega arith
 some-size (scope c t) = omega arith
 some-size (closure R t) = omega arith
+some-size (template e f) = omega arith
 
 pub held-some : {C : Type 0} (t : Tree C) → 1 ≤ held t
 unfolding held
@@ -35,6 +36,7 @@ held-some (join j l r) = omega (arith, held-some l)
 held-some (override p q s) = omega (arith, held-some p)
 held-some (scope c t) = held-some t
 held-some (closure R t) = held-some t
+held-some (template e f) = omega (arith, held-some f)
 
 pub some-nodes : {C : Type 0} {at : ℕ → Node C} {t : Tree C} {lo hi : ℕ} → Encodes at t lo hi → lo < hi
 some-nodes (of-table b e) = omega arith
@@ -42,6 +44,7 @@ some-nodes (of-join k x y e) = omega (arith, some-nodes x, some-nodes y)
 some-nodes (of-override j k x y z e) = omega (arith, some-nodes x, some-nodes y, some-nodes z)
 some-nodes (of-scope x e) = omega (arith, some-nodes x)
 some-nodes (of-closure x e) = omega (arith, some-nodes x)
+some-nodes (of-template k x y e) = omega (arith, some-nodes x, some-nodes y)
 
 -- a tree holds at most as many sets as it has nodes
 pub held-le : {C : Type 0} {at : ℕ → Node C} {t : Tree C} {lo hi : ℕ} → Encodes at t lo hi → held t + lo ≤ hi
@@ -51,22 +54,7 @@ held-le (of-join k x y e) = omega (arith, held-le x, held-le y, some-nodes x, so
 held-le (of-override j k x y z e) = omega (arith, held-le x, held-le y, held-le z, some-nodes x, some-nodes y, some-nodes z)
 held-le (of-scope x e) = omega (arith, held-le x, some-nodes x)
 held-le (of-closure x e) = omega (arith, held-le x, some-nodes x)
-
--- each table that the tree uses has a node
-pub uses-node : {C : Type 0} {at : ℕ → Node C} {t : Tree C} {lo hi : ℕ} (i : ℕ) → Encodes at t lo hi → Uses t i
-    → (j : ℕ) × (lo ≤ j) × (j < hi) × (at j ≡ table-node i)
-unfolding Uses
-uses-node {C} {at} {t} {lo} {hi} i (of-table b e) u = (hi - 1, omega arith, omega arith, e ∙ ap table-node u)
-uses-node i (of-join k x y e) (inl u) = let v = uses-node i x u in (v .0, v .1, omega (arith, v .2, some-nodes y), v .3)
-uses-node i (of-join k x y e) (inr u) = let v = uses-node i y u in (v .0, omega (arith, v .1, some-nodes x), omega (arith, v .2, some-nodes y), v .3)
-uses-node i (of-override j k x y z e) (inl u) =
-    let v = uses-node i x u in (v .0, v .1, omega (arith, v .2, some-nodes y, some-nodes z), v .3)
-uses-node i (of-override j k x y z e) (inr (inl u)) =
-    let v = uses-node i y u in (v .0, omega (arith, v .1, some-nodes x), omega (arith, v .2, some-nodes z), v .3)
-uses-node i (of-override j k x y z e) (inr (inr u)) =
-    let v = uses-node i z u in (v .0, omega (arith, v .1, some-nodes x, some-nodes y), omega (arith, v .2, some-nodes z), v .3)
-uses-node i (of-scope x e) u = let v = uses-node i x u in (v .0, v .1, omega (arith, v .2, some-nodes x), v .3)
-uses-node i (of-closure x e) u = let v = uses-node i x u in (v .0, v .1, omega (arith, v .2, some-nodes x), v .3)
+held-le (of-template k x y e) = omega (arith, held-le x, held-le y, some-nodes x, some-nodes y)
 
 -- ---- nodes elsewhere change nothing
 
@@ -94,6 +82,11 @@ encodes-same {C} {at} {at′} {t} {lo} {hi} s (of-scope x e) =
     let a = some-nodes x in of-scope (encodes-same (λ i p r. s i p (omega arith)) x) (last-same at at′ lo hi s (omega arith) e)
 encodes-same {C} {at} {at′} {t} {lo} {hi} s (of-closure x e) =
     let a = some-nodes x in of-closure (encodes-same (λ i p r. s i p (omega arith)) x) (last-same at at′ lo hi s (omega arith) e)
+encodes-same {C} {at} {at′} {t} {lo} {hi} s (of-template k x y e) =
+    let a = some-nodes x in
+    let b = some-nodes y in
+    of-template k (encodes-same (λ i p r. s i p (omega arith)) x) (encodes-same (λ i p r. s i (omega arith) (omega arith)) y)
+    (last-same at at′ lo hi s (omega arith) e)
 
 -- ---- where a part begins
 
@@ -131,6 +124,9 @@ back-tree {C} {at} {t} {lo} {hi} (of-override j k x y z e) left =
     ∙ back-tree x left
 back-tree {C} {at} {t} {lo} {hi} (of-scope x e) left = let b = some-nodes x in own-back at hi left 1 (omega arith) e refl ∙ back-tree x left
 back-tree {C} {at} {t} {lo} {hi} (of-closure x e) left = let b = some-nodes x in own-back at hi left 1 (omega arith) e refl ∙ back-tree x left
+back-tree {C} {at} {t} {lo} {hi} (of-template k x y e) left =
+    let b = some-nodes y in
+    own-back at hi left 2 (omega arith) e refl ∙ ap (back at (hi - 1)) (omega arith) ∙ back-tree y (left + 1) ∙ back-tree x left
 
 pub part-starts : {C : Type 0} {at : ℕ → Node C} {t : Tree C} {lo hi : ℕ} → Encodes at t lo hi → back at hi 1 ≡ lo
 part-starts {C} {at} {t} {lo} {hi} e = back-tree e 0 ∙ back-none at lo
@@ -144,6 +140,7 @@ kindOf (join-node j) = 1
 kindOf override-node = 2
 kindOf (scope-node c) = 3
 kindOf (closure-node R) = 4
+kindOf template-node = 5
 
 module _ {C : Type 0} where
   pub table-number : (s : Node C) (i j : ℕ) → s ≡ table-node i → s ≡ table-node j → i ≡ j
@@ -175,6 +172,14 @@ module _ {C : Type 0} (at : ℕ → Node C) where
     pub middle : Encodes at q second third
     pub right : Encodes at s third end
 
+  -- E and F of a template
+  pub record Filled (t : Tree C) (lo mid end : ℕ) : Type 0 where
+    pub e : Tree C
+    pub f : Tree C
+    pub is : t ≡ template e f
+    pub body : Encodes at e lo mid
+    pub filling : Encodes at f mid end
+
   pub record Under (t : Tree C) (form : Tree C → Tree C) (lo end : ℕ) : Type 0 where
     pub u : Tree C
     pub is : t ≡ form u
@@ -187,6 +192,7 @@ module _ {C : Type 0} {at : ℕ → Node C} {lo hi : ℕ} where
   is-table i q (of-override j k x y z e) = absurd (omega (arith, ap kindOf q, ap kindOf e))
   is-table i q (of-scope x e) = absurd (omega (arith, ap kindOf q, ap kindOf e))
   is-table i q (of-closure x e) = absurd (omega (arith, ap kindOf q, ap kindOf e))
+  is-table i q (of-template k x y e) = absurd (omega (arith, ap kindOf q, ap kindOf e))
 
   -- a table is one node
   pub one-node : (i : ℕ) → Encodes at (table i) lo hi → hi - 1 ≡ lo
@@ -201,6 +207,7 @@ module _ {C : Type 0} {at : ℕ → Node C} {lo hi : ℕ} where
   halves j mid q f (of-override i k x y z e) = absurd (omega (arith, ap kindOf q, ap kindOf e))
   halves j mid q f (of-scope x e) = absurd (omega (arith, ap kindOf q, ap kindOf e))
   halves j mid q f (of-closure x e) = absurd (omega (arith, ap kindOf q, ap kindOf e))
+  halves j mid q f (of-template k x y e) = absurd (omega (arith, ap kindOf q, ap kindOf e))
 
   pub thirds : {t : Tree C} (second third : ℕ) → at (hi - 1) ≡ override-node → third ≡ back at (hi - 1) 1 → second ≡ back at third 1 → Encodes at t lo hi
       → Thirds at t lo second third (hi - 1)
@@ -211,6 +218,7 @@ module _ {C : Type 0} {at : ℕ → Node C} {lo hi : ℕ} where
       rw (g ∙ ap (λ j. back at j 1) u ∙ part-starts y, u) (record { p = a; q = b; s = d; is = refl; left = x; middle = y; right = z })
   thirds second third q f g (of-scope x e) = absurd (omega (arith, ap kindOf q, ap kindOf e))
   thirds second third q f g (of-closure x e) = absurd (omega (arith, ap kindOf q, ap kindOf e))
+  thirds second third q f g (of-template k x y e) = absurd (omega (arith, ap kindOf q, ap kindOf e))
 
   pub scoped : {t : Tree C} (c : C) → at (hi - 1) ≡ scope-node c → Encodes at t lo hi → Under at t (scope c) lo (hi - 1)
   scoped c q (of-table b e) = absurd (omega (arith, ap kindOf q, ap kindOf e))
@@ -218,6 +226,7 @@ module _ {C : Type 0} {at : ℕ → Node C} {lo hi : ℕ} where
   scoped c q (of-override i k x y z e) = absurd (omega (arith, ap kindOf q, ap kindOf e))
   scoped c q (of-scope {c = d} {t = t} x e) = record { u = t; is = ap (λ c. scope c t) (scope-inside _ d c e q); part = x }
   scoped c q (of-closure x e) = absurd (omega (arith, ap kindOf q, ap kindOf e))
+  scoped c q (of-template k x y e) = absurd (omega (arith, ap kindOf q, ap kindOf e))
 
   pub closed : {t : Tree C} (R : ℕ) → at (hi - 1) ≡ closure-node R → Encodes at t lo hi → Under at t (closure R) lo (hi - 1)
   closed R q (of-table b e) = absurd (omega (arith, ap kindOf q, ap kindOf e))
@@ -225,6 +234,16 @@ module _ {C : Type 0} {at : ℕ → Node C} {lo hi : ℕ} where
   closed R q (of-override i k x y z e) = absurd (omega (arith, ap kindOf q, ap kindOf e))
   closed R q (of-scope x e) = absurd (omega (arith, ap kindOf q, ap kindOf e))
   closed R q (of-closure {R = Q} {t = t} x e) = record { u = t; is = ap (λ R. closure R t) (closure-number _ Q R e q); part = x }
+  closed R q (of-template k x y e) = absurd (omega (arith, ap kindOf q, ap kindOf e))
+
+  -- mid is where F's nodes begin
+  pub filled : {t : Tree C} (mid : ℕ) → at (hi - 1) ≡ template-node → mid ≡ back at (hi - 1) 1 → Encodes at t lo hi → Filled at t lo mid (hi - 1)
+  filled mid q g (of-table b e) = absurd (omega (arith, ap kindOf q, ap kindOf e))
+  filled mid q g (of-join k x y e) = absurd (omega (arith, ap kindOf q, ap kindOf e))
+  filled mid q g (of-override i k x y z e) = absurd (omega (arith, ap kindOf q, ap kindOf e))
+  filled mid q g (of-scope x e) = absurd (omega (arith, ap kindOf q, ap kindOf e))
+  filled mid q g (of-closure x e) = absurd (omega (arith, ap kindOf q, ap kindOf e))
+  filled mid q g (of-template {e = u} {f = v} k x y e) = rw (g ∙ part-starts y) (record { e = u; f = v; is = refl; body = x; filling = y })
 
 -- ---- a node more: encoded parts stay so, and the node after them makes the larger tree
 
@@ -256,6 +275,10 @@ module _ {C : Type 0} (at at′ : ℕ → Node C) (hi : ℕ) (same : (j : ℕ) �
     pub more-join : {mid : ℕ} {r : Tree C} (j : Joiner) → at′ hi ≡ join-node j → Encodes at l lo mid → Encodes at r mid hi
         → Encodes at′ (join j l r) lo (hi + 1)
     more-join {mid} j q e f = of-join {hi = hi + 1} mid (stays (omega (arith, some-nodes f)) e) (stays-last f) (own q)
+
+    pub more-template : {mid : ℕ} {r : Tree C} → at′ hi ≡ template-node → Encodes at l lo mid → Encodes at r mid hi
+        → Encodes at′ (template l r) lo (hi + 1)
+    more-template {mid} q e f = of-template {hi = hi + 1} mid (stays (omega (arith, some-nodes f)) e) (stays-last f) (own q)
 
     pub more-override : {second third : ℕ} {p s : Tree C} → at′ hi ≡ override-node → Encodes at l lo second → Encodes at p second third → Encodes at s third hi
         → Encodes at′ (override l p s) lo (hi + 1)

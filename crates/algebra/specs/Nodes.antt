@@ -3,7 +3,7 @@
 use mathlib.Core.Path.{_≡_}
 use Prim.Native.Nat.{ℕ, zero, suc, _+_, _-_}
 use Rattle.algebra.specs.Answer.{Joiner}
-use Rattle.algebra.specs.Algebra.{Tree, table, join, override, scope, closure}
+use Rattle.algebra.specs.Algebra.{Tree, table, join, override, scope, closure, template}
 
 pub data Node (C : Type 0) : Type 0 where
   table-node : ℕ → Node C
@@ -11,6 +11,7 @@ pub data Node (C : Type 0) : Type 0 where
   override-node : Node C
   scope-node : C → Node C
   closure-node : ℕ → Node C
+  template-node : Node C
 
 -- how many parts a node has
 unfoldable pub parts : {C : Type 0} → Node C → ℕ
@@ -19,6 +20,7 @@ parts (join-node j) = 2
 parts override-node = 3
 parts (scope-node c) = 1
 parts (closure-node R) = 1
+parts template-node = 2
 
 -- how many nodes a tree has
 unfoldable pub size : {C : Type 0} → Tree C → ℕ
@@ -27,6 +29,7 @@ size (join j l r) = suc (size l + size r)
 size (override p q s) = suc (size p + size q + size s)
 size (scope c t) = suc (size t)
 size (closure R t) = suc (size t)
+size (template e f) = suc (size e + size f)
 
 module _ {C : Type 0} (at : ℕ → Node C) where
   -- The nodes from lo up to hi are those of the tree: those of its parts, one part after the other, and then its own.
@@ -38,6 +41,8 @@ module _ {C : Type 0} (at : ℕ → Node C) where
         → at (hi - 1) ≡ override-node → Encodes (override p q s) lo hi
     of-scope : {c : C} {t : Tree C} {lo hi : ℕ} → Encodes t lo (hi - 1) → at (hi - 1) ≡ scope-node c → Encodes (scope c t) lo hi
     of-closure : {R : ℕ} {t : Tree C} {lo hi : ℕ} → Encodes t lo (hi - 1) → at (hi - 1) ≡ closure-node R → Encodes (closure R t) lo hi
+    of-template : {e f : Tree C} {lo hi : ℕ} (mid : ℕ) → Encodes e lo mid → Encodes f mid (hi - 1) → at (hi - 1) ≡ template-node
+        → Encodes (template e f) lo hi
 
   -- where the nodes of so many trees begin that end before node j
   unfoldable pub back : ℕ → ℕ → ℕ

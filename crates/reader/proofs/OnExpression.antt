@@ -88,7 +88,7 @@ module _ (f : List ℕ) (n : ℕ) (t : List ℕ) (w : AtExpression f n t) where
 -- ---- the E line is one
 
 -- "a line after E": no line is in order there
-no-line-after : (d : Declared) (l : Line) → d .group ≡ 7 → ¬ (outOfOrder d l ≡ false)
+pub no-line-after : (d : Declared) (l : Line) → d .group ≡ 7 → ¬ (outOfOrder d l ≡ false)
 unfolding outOfOrder
 no-line-after d l e h =
     let z : outOfOrder d l ≡ true = simp (e, or-true) in

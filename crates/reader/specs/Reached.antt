@@ -24,7 +24,7 @@ declares d (l ∷ ls) = declares (after d (parse l)) ls
 unfoldable pub declaredBefore : List ℕ → ℕ → Declared
 declaredBefore f n = declares start (take (n - 1) (lines f))
 
--- rows 3 to 14 on line n
+-- rows 3 to 14 and 16 on line n
 unfoldable pub verdict : List ℕ → ℕ → Verdict
 verdict f n = judge (declaredBefore f n) (parse (lineAt f n))
 
