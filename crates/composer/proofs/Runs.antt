@@ -1,19 +1,15 @@
 -- Laws of a run: what each kind of node makes of the sets, and what the run of a tree leaves by what the runs of its parts leave.
-use mathlib.Core.Path.{_≡_, refl, sym, ap, ap₂, fun-ext, subst, _∙_}
-use mathlib.Core.Bool.{true, false}
-use mathlib.Core.List.{List, [], _∷_, _++_}
-use Prim.Native.Nat.{ℕ, _+_, _*_, _-_, _≤_, _<_, _/_, _%_}
+use mathlib.Core.Path.{_≡_, refl, sym, ap, ap₂, subst, _∙_}
+use mathlib.Core.List.{List, _++_}
+use Prim.Native.Nat.{ℕ, _+_, _*_, _-_, _≤_, _<_}
 use native.Mathlib.Omega.{arith}
-use lib.Dec.{eqb}
 use lib.ListN.{length, getD, take, drop}
 use lib.Seq.{getD-take, getD-drop}
-use borrow.Author.Tests.{eq-eqb, ne-eqb}
-use Rattle.algebra.specs.Lists.{any, gather, only, upto, tab}
-use Rattle.algebra.specs.Answer.{Answer, undecided, byte, answerOf, sure, known, keep, Joiner, joined, overridden}
+use Rattle.algebra.specs.Lists.{tab}
+use Rattle.algebra.specs.Answer.{Answer, byte, answerOf, known, keep, Joiner, joined, overridden}
 use Rattle.algebra.specs.Rounds.{Clause, used}
-use Rattle.algebra.specs.Algebra.{Tree, table, join, override, scope, closure, permits, decided, close, answer, rounds}
+use Rattle.algebra.specs.Algebra.{Tree, table, join, override, scope, closure, template, bind, permits, decided, close, answer, rounds}
 use Rattle.algebra.specs.Nodes.{scope-node, back}
-use Rattle.algebra.specs.Grants.{grantAt, grantsOf}
 use Rattle.algebra.specs.Policy.{Frame, Scope, accesses, inScope, clauses, model}
 use Rattle.algebra.specs.Stored.{storedJoiner}
 use Rattle.algebra.specs.StoredFrame.{Stands}
@@ -21,48 +17,23 @@ use Rattle.algebra.specs.declared.Counts.{Counts}
 use Rattle.algebra.proofs.Lists.{length-tab, every-cong}
 use Rattle.algebra.proofs.Answer.{byte-small}
 use Rattle.algebra.proofs.Algebra.{permits-cong}
-use Rattle.algebra.proofs.Nodes.{some-nodes, is-table, halves, thirds, scoped, closed}
+use Rattle.algebra.proofs.Nodes.{some-nodes, is-table, halves, thirds, scoped, closed, filled}
 use Rattle.sets.specs.Bytes.{put}
 use Rattle.sets.specs.Sets.{byteAt, answerAt, setAt, putSet, Answers}
 use Rattle.sets.proofs.Bytes.{part-put}
-use Rattle.sets.proofs.Sets.{answerOf-byte, putSet-low, putSet-at, putSet-high, putSet-cong}
+use Rattle.sets.proofs.Sets.{answerOf-byte, putSet-low, putSet-at, putSet-high, copied}
 use Rattle.closure.specs.Closed.{answersOf, ClosedTo}
 use Rattle.scopes.specs.Scopes.{storedScope, Names}
 use Rattle.scopes.specs.declared.StoredScope.{StoredScope}
 use Rattle.nodes.specs.Cells.{cellIn, nodeOf, label}
 use Rattle.nodes.specs.declared.Cell.{Cell}
-use Rattle.nodes.proofs.Says.{says-table, says-join, says-override, says-scope, says-closure}
+use Rattle.nodes.proofs.Says.{says-table, says-join, says-override, says-scope, says-closure, says-template}
 use Rattle.composer.specs.Compose.{Fits}
-use Rattle.composer.specs.Run.{tableIn, ClosedAt, Answered, FewRounds, AllAnswered}
+use Rattle.composer.specs.Run.{Below, Inner, InForce, ClosedAt, Answered, FewRounds, AllAnswered}
+use Rattle.composer.specs.declared.Bound.{Bound}
 use Rattle.composer.specs.declared.Setting.{Setting}
 use Rattle.composer.proofs.Cells.{ScopeIs, scope-is, scope-names}
-
--- ---- a table
-
-pub is-here : (i : ℕ) (here : List ℕ) (grants : ℕ) (w : List ℕ) (x : ℕ) → getD here i 0 ≡ 1
-    → tableIn here grants w i x ≡ sure (any (eqb x) (grantsOf 57344 i grants w))
-unfolding tableIn
-is-here i here grants w x e = rw (eq-eqb (getD here i 0) 1 e, tableIn)
-
-pub is-away : (i : ℕ) (here : List ℕ) (grants : ℕ) (w : List ℕ) (x : ℕ) → (getD here i 0 ≡ 1 → ⊥) → tableIn here grants w i x ≡ undecided
-unfolding tableIn
-is-away i here grants w x e = rw (ne-eqb (getD here i 0) 1 e, tableIn)
-
-module _ (k n table : ℕ) (here : List ℕ) (i grants : ℕ) (w w′ : List ℕ) (at : i ≡ table) where
-  pub table-here : getD here i 0 ≡ 1 → w′ ≡ putSet k n (λ x. sure (any (eqb x) (grantsOf 57344 table grants w))) w
-      → w′ ≡ putSet k n (tableIn here grants w table) w
-  table-here e q = q ∙ putSet-cong k n _ _ w (λ x h. sym (is-here table here grants w x (ap (λ i. getD here i 0) (sym at) ∙ e)))
-
-  pub table-away : (getD here i 0 ≡ 1 → ⊥) → w′ ≡ putSet k n (λ x. undecided) w → w′ ≡ putSet k n (tableIn here grants w table) w
-  table-away e q = q ∙ putSet-cong k n _ _ w (λ x h. sym (is-away table here grants w x (λ r. e (ap (λ i. getD here i 0) at ∙ r))))
-
--- the tables are the same where the bytes beyond the sets are
-tables-same : (here : List ℕ) (grants : ℕ) (w w′ : List ℕ) → ((i : ℕ) → 57344 ≤ i → getD w′ i 0 ≡ getD w i 0) → tableIn here grants w′ ≡ tableIn here grants w
-unfolding tableIn grantsOf
-tables-same here grants w w′ h =
-    let e : grantAt 57344 w′ ≡ grantAt 57344 w = fun-ext (λ i. rw (h (57344 + 2 * i) (omega arith), h (57344 + 2 * i + 1) (omega arith))) in
-    let list : (ℕ → ℕ) → ℕ → List ℕ = λ g i. gather (λ j. only (eqb (g j / 4096) i) (g j % 4096 ∷ [])) (upto grants) in
-    ap {B = ℕ → ℕ → Answer} (λ g i x. elim (eqb (getD here i 0) 1) [ true ↦ sure (any (eqb x) (list g i)) | false ↦ undecided ]) e
+use Rattle.composer.proofs.Named.{Holding, still, within}
 
 -- ---- a closure
 
@@ -86,10 +57,6 @@ unfolding close decided
 close-cong N G lim a a′ h x = rw (permits-cong N a a′ h, every-cong N (λ y. known (a y)) (λ y. known (a′ y)) (λ y l. ap known (h y l)))
 
 -- ---- answers in a set
-
--- set k holds the answers f
-abbrev Holding : ℕ → ℕ → (ℕ → Answer) → List ℕ → Type 0
-Holding k N f w = (x : ℕ) → x < N → byteAt k w x ≡ byte (f x)
 
 all-answers : {N : ℕ} (k : ℕ) (f : ℕ → Answer) (w : List ℕ) → Holding k N f w → Answers k N w
 all-answers k f w h x l = omega (arith, h x l, byte-small (f x))
@@ -155,6 +122,15 @@ module _ (fr : Frame) (lim : ℕ) (T : ℕ → ℕ → Answer) (few : accesses f
       (λ x h. rw (answer-is k (of l) w₃ p x h, answer-is (k + 1) (of m) w₃ q x h, answer-is (k + 2) (of r) w₃ (f .answers) x h) refl)
       (ap₂ _+_ (ap₂ _+_ (d .all) (e .all)) (f .all))
 
+  -- x stands for F's answers, which stay in set k while E is run; then E's come there
+  run-template : (e f : Tree Scope) (w w₁ w₂ w₃ : List ℕ) (a b : ℕ) → Answered fr lim T f k w a w₁ → Answered fr lim (bind (of f) T) e (k + 1) w₁ b w₂
+      → 65536 ≤ length w₂ → w₃ ≡ put (k * 4096) (tab N (byteAt (k + 1) w₂)) w₂ → Answered fr lim T (template e f) k w (a + b) w₃
+  unfolding answer rounds
+  run-template e f w w₁ w₂ w₃ a b d g long q =
+      let E : ℕ → Answer = answer (model fr) lim (bind (of f) T) e in
+      put-answers (template e f) E (a + b) w w₂ w₃ long (λ i h. g .below i (omega arith) ∙ d .below i h) (λ i h. g .beyond i h ∙ d .beyond i h)
+      (q ∙ copied k (k + 1) N E w₂ (g .answers)) (λ x h. refl) (ap₂ _+_ (d .all) (g .all))
+
   module _ (u : Tree Scope) (w w₁ : List ℕ) (a : ℕ) (long : 65536 ≤ length w₁) (d : Answered fr lim T u k w a w₁) where
     run-scope : (c : Scope) (w₂ : List ℕ) → w₂ ≡ putSet k N (λ x. keep (inScope fr c x) (answerAt k w₁ x)) w₁ → Answered fr lim T (scope c u) k w a w₂
     unfolding answer rounds
@@ -197,77 +173,85 @@ module _ (m : List ℕ) (end : ℕ) (c : Cell) (o : c ≡ cellIn m (end - 1)) wh
   pub few-scope : (a : ℕ) → 5 ≤ c .kind → c .kind < 7 → FewRounds m (end - 1) a → FewRounds m end a
   few-scope a k l f e lo en = let v = scoped _ (own ∙ says-scope c k l) en in omega (arith, f (v .u) lo (v .part), some-nodes (v .part))
 
-  pub few-closure : (a b : ℕ) → 7 ≤ c .kind → b ≤ 4096 → FewRounds m (end - 1) a → FewRounds m end (a + b)
-  few-closure a b k h f e lo en = let v = closed _ (own ∙ says-closure c k) en in omega (arith, f (v .u) lo (v .part), some-nodes (v .part))
+  pub few-closure : (a b : ℕ) → 7 ≤ c .kind → c .kind < 8 → b ≤ 4096 → FewRounds m (end - 1) a → FewRounds m end (a + b)
+  few-closure a b k l h f e lo en = let v = closed _ (own ∙ says-closure c k l) en in omega (arith, f (v .u) lo (v .part), some-nodes (v .part))
+
+  pub few-template : (mid a b : ℕ) → 8 ≤ c .kind → mid ≡ back (label m) (end - 1) 1 → FewRounds m (end - 1) a → FewRounds m mid b → FewRounds m end (a + b)
+  few-template mid a b k s f g e lo en =
+      let v = filled mid (own ∙ says-template c k) s en in
+      omega (arith, f (v .f) mid (v .filling), g (v .e) lo (v .body), some-nodes (v .filling), some-nodes (v .body))
 
   module _ (fr : Frame) (st : Setting) where
     abbrev lim : ℕ
     lim = st .limit
 
-    abbrev tables : List ℕ → ℕ → ℕ → Answer
-    tables = tableIn (st .here) (st .grants)
+    abbrev Ran : Bound → ℕ → ℕ → List ℕ → ℕ → List ℕ → Type 0
+    Ran bs end i w r w′ = AllAnswered fr m end i bs st w r w′
 
-    abbrev Ran : ℕ → ℕ → List ℕ → ℕ → List ℕ → Type 0
-    Ran end i w r w′ = AllAnswered fr m end i st w r w′
-
-    -- the same of the tables as they were before
-    earlier : {t : Tree Scope} (i : ℕ) (w w₁ : List ℕ) (r : ℕ) (w₂ : List ℕ) → ((j : ℕ) → 57344 ≤ j → getD w₁ j 0 ≡ getD w j 0)
-        → Answered fr lim (tables w₁) t i w₁ r w₂ → Answered fr lim (tables w) t i w₁ r w₂
-    earlier {t} i w w₁ r w₂ b d = subst (λ T. Answered fr lim T t i w₁ r w₂) (tables-same (st .here) (st .grants) w w₁ b) d
-
-    module _ (k : ℕ) (few : st .size ≤ 4096) (is-size : st .size ≡ accesses fr) (room : k < 14) where
+    module _ (bs : Bound) (k : ℕ) (few : st .size ≤ 4096) (is-size : st .size ≡ accesses fr) (room : k < 14) (low : Below k bs) where
       few′ : accesses fr ≤ 4096
       few′ = omega arith
 
-      pub ran-table : (w w′ : List ℕ) → c .kind ≡ 0 → 65536 ≤ length w → w′ ≡ putSet k (st .size) (tables w (c .number)) w → Ran end k w 0 w′
-      ran-table w w′ z long q e lo en =
-          let T = tables w in
+      pub ran-table : (w w′ : List ℕ) → c .kind ≡ 0 → 65536 ≤ length w
+          → ((T : ℕ → ℕ → Answer) → InForce st bs (st .size) w T → w′ ≡ putSet k (st .size) (T (c .number)) w) → Ran bs end k w 0 w′
+      ran-table w w′ z long q T o e lo en =
           subst (λ e. Answered fr lim T e k w 0 w′) (sym (is-table (c .number) (own ∙ says-table c z) en))
-          (run-table fr lim T few′ k room (c .number) w w′ long (q ∙ ap (λ s. putSet k s (T (c .number)) w) is-size))
+          (run-table fr lim T few′ k room (c .number) w w′ long
+          (q T (subst (λ s. InForce st bs s w T) (sym is-size) o) ∙ ap (λ s. putSet k s (T (c .number)) w) is-size))
 
       pub ran-two : (mid : ℕ) (w w₁ w₂ w₃ : List ℕ) (a b : ℕ) → (c .kind ≡ 0 → ⊥) → c .kind < 4 → mid ≡ back (label m) (end - 1) 1 → 65536 ≤ length w₂
-          → Ran mid k w a w₁ → Ran (end - 1) (k + 1) w₁ b w₂
+          → Ran bs mid k w a w₁ → Ran bs (end - 1) (k + 1) w₁ b w₂
           → (Answers k (st .size) w₂ → Answers (k + 1) (st .size) w₂
-          → w₃ ≡ putSet k (st .size) (λ x. joined (storedJoiner (c .kind - 1)) (answerAt k w₂ x) (answerAt (k + 1) w₂ x)) w₂) → Ran end k w (a + b) w₃
-      ran-two mid w w₁ w₂ w₃ a b z l s long f g q e lo en =
-          let T = tables w in
+          → w₃ ≡ putSet k (st .size) (λ x. joined (storedJoiner (c .kind - 1)) (answerAt k w₂ x) (answerAt (k + 1) w₂ x)) w₂) → Ran bs end k w (a + b) w₃
+      ran-two mid w w₁ w₂ w₃ a b z l s long f g q T o e lo en =
           let j = storedJoiner (c .kind - 1) in
           let v = halves j mid (own ∙ says-join c z l) s en in
-          let x = f (v .l) lo (v .left) in
-          let y = earlier (k + 1) w w₁ b w₂ (x .beyond) (g (v .r) mid (v .right)) in
+          let x = f T o (v .l) lo (v .left) in
+          let y = g T (still st few′ bs k low w w₁ (x .below) (x .beyond) T o) (v .r) mid (v .right) in
           subst (λ e. Answered fr lim T e k w (a + b) w₃) (sym (v .is))
           (run-two fr lim T few′ k room j (v .l) (v .r) w w₁ w₂ w₃ a b x y long
           (subst (λ s. Answers k s w₂ → Answers (k + 1) s w₂ → w₃ ≡ putSet k s (λ x. joined j (answerAt k w₂ x) (answerAt (k + 1) w₂ x)) w₂) is-size q))
 
       pub ran-three : (second third : ℕ) (w w₁ w₂ w₃ w₄ : List ℕ) (a b d : ℕ) → c .kind ≡ 4 → third ≡ back (label m) (end - 1) 1
-          → second ≡ back (label m) third 1 → 65536 ≤ length w₃ → Ran second k w a w₁ → Ran third (k + 1) w₁ b w₂ → Ran (end - 1) (k + 2) w₂ d w₃
+          → second ≡ back (label m) third 1 → 65536 ≤ length w₃ → Ran bs second k w a w₁ → Ran bs third (k + 1) w₁ b w₂ → Ran bs (end - 1) (k + 2) w₂ d w₃
           → (Answers k (st .size) w₃ → Answers (k + 1) (st .size) w₃ → Answers (k + 2) (st .size) w₃
-          → w₄ ≡ putSet k (st .size) (λ x. overridden (answerAt k w₃ x) (answerAt (k + 1) w₃ x) (answerAt (k + 2) w₃ x)) w₃) → Ran end k w (a + b + d) w₄
-      ran-three second third w w₁ w₂ w₃ w₄ a b d z s i long f g h q e lo en =
-          let T = tables w in
+          → w₄ ≡ putSet k (st .size) (λ x. overridden (answerAt k w₃ x) (answerAt (k + 1) w₃ x) (answerAt (k + 2) w₃ x)) w₃) → Ran bs end k w (a + b + d) w₄
+      ran-three second third w w₁ w₂ w₃ w₄ a b d z s i long f g h q T o e lo en =
           let made : ℕ → List ℕ = λ s. putSet k s (λ x. overridden (answerAt k w₃ x) (answerAt (k + 1) w₃ x) (answerAt (k + 2) w₃ x)) w₃ in
           let v = thirds second third (own ∙ says-override c z) s i en in
-          let x = f (v .p) lo (v .left) in
-          let y = earlier (k + 1) w w₁ b w₂ (x .beyond) (g (v .q) second (v .middle)) in
-          let u = earlier (k + 2) w w₂ d w₃ (λ i l. y .beyond i l ∙ x .beyond i l) (h (v .s) third (v .right)) in
+          let x = f T o (v .p) lo (v .left) in
+          let o₁ = still st few′ bs k low w w₁ (x .below) (x .beyond) T o in
+          let y = g T o₁ (v .q) second (v .middle) in
+          let u = h T (still st few′ bs k low w₁ w₂ (λ i l. y .below i (omega arith)) (y .beyond) T o₁) (v .s) third (v .right) in
           subst (λ e. Answered fr lim T e k w (a + b + d) w₄) (sym (v .is))
           (run-three fr lim T few′ k room (v .p) (v .q) (v .s) w w₁ w₂ w₃ w₄ a b d x y u long
           (subst (λ s. Answers k s w₃ → Answers (k + 1) s w₃ → Answers (k + 2) s w₃ → w₄ ≡ made s) is-size q))
 
-      module _ (w w₁ : List ℕ) (a : ℕ) (long : 65536 ≤ length w₁) (f : Ran (end - 1) k w a w₁) where
-        pub ran-closure : (b : ℕ) (w₂ : List ℕ) → 7 ≤ c .kind → ClosedAt fr (c .number) lim k w₁ b w₂ → Ran end k w (a + b) w₂
-        ran-closure b w₂ z cl e lo en =
-            let T = tables w in
-            let v = closed (c .number) (own ∙ says-closure c z) en in
+      -- F is run first, and then E within the binding of F's set
+      pub ran-template : (bs′ : Bound) (mid : ℕ) (w w₁ w₂ w₃ : List ℕ) (a b : ℕ) → 8 ≤ c .kind → mid ≡ back (label m) (end - 1) 1 → Inner k bs bs′
+          → 65536 ≤ length w₂ → Ran bs (end - 1) k w a w₁ → Ran bs′ mid (k + 1) w₁ b w₂
+          → w₃ ≡ put (k * 4096) (tab (st .size) (byteAt (k + 1) w₂)) w₂ → Ran bs end k w (a + b) w₃
+      ran-template bs′ mid w w₁ w₂ w₃ a b z s i long f g q T o e lo en =
+          let v = filled mid (own ∙ says-template c z) s en in
+          let x = f T o (v .f) mid (v .filling) in
+          let F : ℕ → Answer = answer (model fr) lim T (v .f) in
+          let y = g (bind F T) (within st few′ bs k low w w₁ (x .below) (x .beyond) T o bs′ F i (x .answers)) (v .e) lo (v .body) in
+          subst (λ e. Answered fr lim T e k w (a + b) w₃) (sym (v .is))
+          (run-template fr lim T few′ k room (v .e) (v .f) w w₁ w₂ w₃ a b x y long
+          (subst (λ s. w₃ ≡ put (k * 4096) (tab s (byteAt (k + 1) w₂)) w₂) is-size q))
+
+      module _ (w w₁ : List ℕ) (a : ℕ) (long : 65536 ≤ length w₁) (f : Ran bs (end - 1) k w a w₁) where
+        pub ran-closure : (b : ℕ) (w₂ : List ℕ) → 7 ≤ c .kind → c .kind < 8 → ClosedAt fr (c .number) lim k w₁ b w₂ → Ran bs end k w (a + b) w₂
+        ran-closure b w₂ z l cl T o e lo en =
+            let v = closed (c .number) (own ∙ says-closure c z l) en in
             subst (λ e. Answered fr lim T e k w (a + b) w₂) (sym (v .is))
-            (run-closure fr lim T few′ k room (v .u) w w₁ a long (f (v .u) lo (v .part)) (c .number) b w₂ cl)
+            (run-closure fr lim T few′ k room (v .u) w w₁ a long (f T o (v .u) lo (v .part)) (c .number) b w₂ cl)
 
         pub ran-scope : (n : Counts) (t : List ℕ) (sc : StoredScope) (w₂ : List ℕ) → Fits n c → 5 ≤ c .kind → c .kind < 7 → Stands fr n t → ScopeIs c sc
             → (Names fr (storedScope sc) → Answers k (accesses fr) w₁
-            → w₂ ≡ putSet k (accesses fr) (λ x. keep (inScope fr (storedScope sc) x) (answerAt k w₁ x)) w₁) → Ran end k w a w₂
-        ran-scope n t sc w₂ fi z l ok is q e lo en =
-            let T = tables w in
+            → w₂ ≡ putSet k (accesses fr) (λ x. keep (inScope fr (storedScope sc) x) (answerAt k w₁ x)) w₁) → Ran bs end k w a w₂
+        ran-scope n t sc w₂ fi z l ok is q T o e lo en =
             let v = scoped (storedScope sc) (own ∙ says-scope c z l ∙ ap scope-node (scope-is n c sc fi z l is)) en in
-            let d = f (v .u) lo (v .part) in
+            let d = f T o (v .u) lo (v .part) in
             let r = q (scope-names n c sc fi z l is fr t ok) (all-answers k (answer (model fr) lim T (v .u)) w₁ (d .answers)) in
             subst (λ e. Answered fr lim T e k w a w₂) (sym (v .is)) (run-scope fr lim T few′ k room (v .u) w w₁ a long d (storedScope sc) w₂ r)

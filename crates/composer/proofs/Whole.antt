@@ -19,7 +19,7 @@ use Rattle.algebra.proofs.Bytes.{length-answers, answers-at}
 use Rattle.algebra.proofs.Tables.{answer-here, answer-away}
 use Rattle.composer.specs.Compose.{TableIs, Composes, Composed}
 use Rattle.composer.specs.Run.{tableIn, Answered}
-use Rattle.composer.proofs.Runs.{is-here, is-away}
+use Rattle.composer.proofs.Named.{is-here, is-away}
 
 -- a table's answers are those of the data
 table-same : (ts : List Table) (here : List ℕ) (grants : ℕ) (w : List ℕ) (i : ℕ) → TableIs ts here grants w i

@@ -23,9 +23,8 @@ pub record TableIs (ts : List Table) (here : List ℕ) (grants : ℕ) (w : List 
   pub flag : tableAt ts i .here ≡ eqb (getD here i 0) 1
   pub list : tableAt ts i .here ≡ true → tableAt ts i .grants ≡ grantsOf 57344 i grants w
 
--- a node whose numbers are in their ranges
+-- a node whose numbers are in their ranges; that of a table hangs on the bindings in force, and is bounded with the tree
 pub record Fits (n : Counts) (c : Cell) : Type 0 where
-  pub table : c .kind ≡ 0 → c .number < 16
   pub member : c .kind ≡ 5 → (1 ≤ c .op) × (c .op ≤ 5) × (c .sort ≤ 2) × (c .number < sizeOf n (storedSort (c .sort)))
   pub predicate : c .kind ≡ 6 → (c .sort ≤ 2) × (c .number < 16)
 

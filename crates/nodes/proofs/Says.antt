@@ -1,13 +1,13 @@
 -- What a cell says, by its kind.
-use mathlib.Core.Path.{_≡_, refl, sym, ap, _∙_}
-use Prim.Native.Nat.{ℕ, _-_, _≤_, _<_}
-use native.Mathlib.Decide.{ℕ-discrete, decLt}
+use mathlib.Core.Path.{_≡_, refl, _∙_}
+use mathlib.Core.Bool.{cond}
+use Prim.Native.Nat.{_-_, _≤_, _<_}
+use native.Mathlib.Decide.{decLt}
 use native.Mathlib.Omega.{arith}
+use lib.Dec.{ltb}
 use borrow.Author.Tests.{eq-eqb, ne-eqb, lt-ltb, le-ltb}
-use Rattle.algebra.specs.Policy.{Scope}
 use Rattle.algebra.specs.Stored.{storedJoiner}
-use Rattle.algebra.specs.Nodes.{Node, table-node, join-node, override-node, scope-node, closure-node, parts}
-use Rattle.algebra.proofs.Nodes.{kindOf, table-number}
+use Rattle.algebra.specs.Nodes.{table-node, join-node, override-node, scope-node, closure-node, template-node, parts}
 use Rattle.nodes.specs.Cells.{cell, scopeIn, nodeOf}
 use Rattle.nodes.specs.declared.Cell.{Cell}
 
@@ -29,10 +29,16 @@ module _ (c : Cell) where
   says-scope k l =
       rw (ne-eqb (c .kind) 0 (λ z. omega arith), le-ltb (c .kind) 4 (omega arith), ne-eqb (c .kind) 4 (λ z. omega arith), lt-ltb (c .kind) 7 l)
 
-  pub says-closure : 7 ≤ c .kind → nodeOf c ≡ closure-node (c .number)
+  -- past the kinds of a scope
+  later : 7 ≤ c .kind → nodeOf c ≡ cond (ltb (c .kind) 8) (closure-node (c .number)) template-node
   unfolding nodeOf
-  says-closure k =
-      rw (ne-eqb (c .kind) 0 (λ z. omega arith), le-ltb (c .kind) 4 (omega arith), ne-eqb (c .kind) 4 (λ z. omega arith), le-ltb (c .kind) 7 k)
+  later k = rw (ne-eqb (c .kind) 0 (λ z. omega arith), le-ltb (c .kind) 4 (omega arith), ne-eqb (c .kind) 4 (λ z. omega arith), le-ltb (c .kind) 7 k)
+
+  pub says-closure : 7 ≤ c .kind → c .kind < 8 → nodeOf c ≡ closure-node (c .number)
+  says-closure k l = later k ∙ rw (lt-ltb (c .kind) 8 l)
+
+  pub says-template : 8 ≤ c .kind → nodeOf c ≡ template-node
+  says-template k = later (omega arith) ∙ rw (le-ltb (c .kind) 8 k)
 
   -- ---- how many parts
 
@@ -48,24 +54,14 @@ module _ (c : Cell) where
   unfolding parts
   parts-three e = rw (says-override e) refl
 
-  pub parts-one : 5 ≤ c .kind → 1 ≡ parts (nodeOf c)
+  pub parts-one : 5 ≤ c .kind → c .kind < 8 → 1 ≡ parts (nodeOf c)
   unfolding parts
-  parts-one k = go (decLt (c .kind) 7)
+  parts-one k l = go (decLt (c .kind) 7)
     where
       go : Dec (c .kind < 7) → 1 ≡ parts (nodeOf c)
       go (yes l) = rw (says-scope k l) refl
-      go (no n) = rw (says-closure (omega arith)) refl
+      go (no n) = rw (says-closure (omega arith) l) refl
 
--- a node that is a table's has kind 0 and the table's number
-pub is-table-cell : (c : Cell) (i : ℕ) → nodeOf c ≡ table-node i → (c .kind ≡ 0) × (c .number ≡ i)
-is-table-cell c i e = go (ℕ-discrete (c .kind) 0) (decLt (c .kind) 4) (ℕ-discrete (c .kind) 4) (decLt (c .kind) 7)
-  where
-    other : {s : Node Scope} → nodeOf c ≡ s → (kindOf s ≡ 0 → ⊥) → (c .kind ≡ 0) × (c .number ≡ i)
-    other q n = absurd (n (sym (ap kindOf q) ∙ ap kindOf e))
-
-    go : Dec (c .kind ≡ 0) → Dec (c .kind < 4) → Dec (c .kind ≡ 4) → Dec (c .kind < 7) → (c .kind ≡ 0) × (c .number ≡ i)
-    go (yes k) x y z = (k, table-number (nodeOf c) (c .number) i (says-table c k) e)
-    go (no n) (yes l) y z = other (says-join c n l) (λ q. omega arith)
-    go (no n) (no m) (yes k) z = other (says-override c k) (λ q. omega arith)
-    go (no n) (no m) (no k) (yes l) = other (says-scope c (omega arith) l) (λ q. omega arith)
-    go (no n) (no m) (no k) (no l) = other (says-closure c (omega arith)) (λ q. omega arith)
+  pub parts-template : 8 ≤ c .kind → 2 ≡ parts (nodeOf c)
+  unfolding parts
+  parts-template k = rw (says-template k) refl

@@ -7,7 +7,7 @@ use lib.ListN.{length, getD, set}
 use Rattle.algebra.specs.Algebra.{Tree}
 use Rattle.algebra.specs.Policy.{Scope, compared, marked}
 use Rattle.algebra.specs.Stored.{storedSort, storedOp, storedJoiner}
-use Rattle.algebra.specs.Nodes.{Node, table-node, join-node, override-node, scope-node, closure-node, Encodes}
+use Rattle.algebra.specs.Nodes.{Node, table-node, join-node, override-node, scope-node, closure-node, template-node, Encodes}
 use Rattle.nodes.specs.declared.Cell.{Cell}
 
 abbrev pub cell : ℕ → ℕ → ℕ → ℕ → Cell
@@ -26,13 +26,14 @@ unfoldable pub scopeIn : Cell → Scope
 scopeIn c =
     cond (eqb (c .kind) 6) (marked (storedSort (c .sort)) (c .number)) (compared (storedSort (c .sort)) (storedOp (c .op)) (c .number))
 
--- kind 0: a table; 1, 2, 3: `+`, `&`, `-`; 4: `o`; 5: a comparison; 6: a predicate; 7: a closure
+-- kind 0: a table; 1, 2, 3: `+`, `&`, `-`; 4: `o`; 5: a comparison; 6: a predicate; 7: a closure; 8: a template
 unfoldable pub nodeOf : Cell → Node Scope
 nodeOf c =
     cond (eqb (c .kind) 0) (table-node (c .number))
     (cond (ltb (c .kind) 4) (join-node (storedJoiner (c .kind - 1)))
     (cond (eqb (c .kind) 4) override-node
-    (cond (ltb (c .kind) 7) (scope-node (scopeIn c)) (closure-node (c .number)))))
+    (cond (ltb (c .kind) 7) (scope-node (scopeIn c))
+    (cond (ltb (c .kind) 8) (closure-node (c .number)) template-node))))
 
 -- node j of the slice
 abbrev pub label : List ℕ → ℕ → Node Scope

@@ -2,13 +2,14 @@
 ghost use mathlib.Core.Path.{_≡_};
 ghost use Prim.Native.Nat.{ℕ, _+_, _*_, _≤_, max};
 ghost use lib.ListN.{length};
-ghost use Rattle.algebra.specs.Algebra.{Tree, held};
+ghost use Rattle.algebra.specs.Algebra.{Tree, held, bindings};
 ghost use Rattle.algebra.specs.Policy.{Scope};
 ghost use Rattle.algebra.specs.Nodes.{parts, Encodes, back};
 ghost use Rattle.nodes.specs.Cells.{cellIn, withCell, nodeOf, label, HasTree};
 
 // A node. Kind 0: the table with the number. Kinds 1, 2 and 3: `+`, `&` and `-`. Kind 4: `o`. Kind 5: the scope of a comparison, 1 to 5
 // for `<=`, `>=`, `<`, `>` and `=`, with the member of the sort. Kind 6: the scope of a predicate of the sort. Kind 7: the closure by a rule set.
+// Kind 8: a template `(t:x.E)(F)`, after E's nodes and then F's; within E x is table 0, and table n + 1 is table n outside.
 pub struct Cell {
     pub kind: u8,
     pub sort: u8,
@@ -53,7 +54,10 @@ fn parts_of(c: Cell) -> usize
     if c.kind == 4 {
         return 3;
     }
-    1
+    if c.kind < 8 {
+        return 1;
+    }
+    2
 }
 
 // Where the tree begins whose last node stands before `end`: back over its nodes, until no part is left to pass.
@@ -80,16 +84,18 @@ fn larger(x: usize, y: usize) -> usize
     if x < y { y } else { x }
 }
 
-// Where a tree begins, and how many sets it holds.
+// Where a tree begins, how many sets it holds, and how many bindings are in force at once.
 pub struct Counted {
     pub start: usize,
     pub sets: usize,
+    pub bindings: usize,
 }
 
 // The tree whose last node stands before `end`: from the last part to the first, since each begins where the one before it ends.
 pub fn sets_held(m: &[u8], end: usize) -> Counted
     requires { ⌜ HasTree (now m) end ⌝ }
-    ensures { λ r. ⌜ ((t : Tree Scope) (lo : ℕ) → Encodes (label (now (m .entry))) t lo end → (r .start ≡ lo) × (r .sets ≡ held t)) ⌝ }
+    ensures { λ r. ⌜ ((t : Tree Scope) (lo : ℕ) → Encodes (label (now (m .entry))) t lo end
+        → (r .start ≡ lo) × (r .sets ≡ held t) × (r .bindings ≡ bindings t)) ⌝ }
 {
     let own = end - 1;
     let c = cell_at(m, own);
@@ -97,6 +103,7 @@ pub fn sets_held(m: &[u8], end: usize) -> Counted
         return Counted {
             start: own,
             sets: 1,
+            bindings: 0,
         };
     }
     if c.kind < 4 {
@@ -105,6 +112,7 @@ pub fn sets_held(m: &[u8], end: usize) -> Counted
         return Counted {
             start: l.start,
             sets: larger(l.sets, 1 + r.sets),
+            bindings: larger(l.bindings, r.bindings),
         };
     }
     if c.kind == 4 {
@@ -114,7 +122,17 @@ pub fn sets_held(m: &[u8], end: usize) -> Counted
         return Counted {
             start: p.start,
             sets: larger(p.sets, larger(1 + q.sets, 2 + s.sets)),
+            bindings: larger(p.bindings, larger(q.bindings, s.bindings)),
         };
     }
-    sets_held(m, own)
+    if c.kind < 8 {
+        return sets_held(m, own);
+    }
+    let f = sets_held(m, own);
+    let e = sets_held(m, f.start);
+    Counted {
+        start: e.start,
+        sets: larger(f.sets, 1 + e.sets),
+        bindings: larger(f.bindings, 1 + e.bindings),
+    }
 }

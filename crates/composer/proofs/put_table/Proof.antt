@@ -1,5 +1,5 @@
 -- `composer::put_table` meets its contract: the flag says which of the two fills is the table's.
-use Rattle.composer.proofs.Runs.{table-here, table-away}
+use Rattle.composer.proofs.Named.{table-here, table-away}
 use borrow.Author.Needs.{needs}
 use Rattle.composer.proofs.put_table.Statement.{statement}
 use Rattle.composer.proofs.put_table.Tie as tie

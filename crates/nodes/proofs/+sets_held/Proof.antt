@@ -2,7 +2,7 @@
 use mathlib.Core.Path.{ap, _∙_}
 use native.Mathlib.Omega.{arith}
 use Rattle.nodes.proofs.Held.{some-tree, held-few, held-table, right-tree, left-tree, held-join, third-tree, second-tree, first-tree, held-override}
-use Rattle.nodes.proofs.Held.{one-tree, held-one}
+use Rattle.nodes.proofs.Held.{one-tree, held-one, filling-tree, body-tree, held-template}
 use Prim.Native.Nat.{ℕ, _<_, max}
 use borrow.Fn.Kinds.{In}
 use borrow.Fn.PlainCycle.{Measures, is, falls, and}
@@ -77,22 +77,26 @@ sets-held-add-larger t c =
     let c5 = c3 .before .before in
     let c7 = c5 .before .before in
     let start = c7 .before .before in
-    omega
-    (arith, held-few (right-tree (start .pre .1) (c7 .cell-at .result) (c7 .cell-at .ensures) (c5 .if1 .left) (c3 .if2 .taken)) (c2 .sets-held .ensures))
+    let r = right-tree (start .pre .1) (c7 .cell-at .result) (c7 .cell-at .ensures) (c5 .if1 .left) (c3 .if2 .taken) in
+    omega (arith, held-few r (c2 .sets-held .ensures) .0)
 
 sets-held-larger-requires : (t : ℕ) → sets-held-lts.Need-larger-requires (calls t) (sets-held-at t) sets-held.Post
 sets-held-larger-requires t c κs = tt
 
+sets-held-larger-requires-2 : (t : ℕ) → sets-held-lts.Need-larger-requires-2 (calls t) (sets-held-at t) sets-held.Post
+sets-held-larger-requires-2 t c κs = tt
+
 sets-held-returns-2 : (t : ℕ) → sets-held-lts.Need-returns-2 (calls t) (sets-held-at t) sets-held.Post
 sets-held-returns-2 t c =
-    let c2 = c .before .before in
-    let c3 = c2 .before in
+    let c1 = c .before in
+    let c3 = c1 .before .before in
     let c4 = c3 .before in
-    let c6 = c4 .before .before in
-    let c8 = c6 .before .before in
-    let start = c8 .before .before in
-    held-join (start .pre .1) (c8 .cell-at .result) (c8 .cell-at .ensures) (c6 .if1 .left) (c4 .if2 .taken) (c3 .sets-held .result)
-    (c3 .sets-held .ensures) (c2 .sets-held2 .result) (c .larger .result) (c2 .sets-held2 .ensures) (c .larger .ensures)
+    let c5 = c4 .before in
+    let c7 = c5 .before .before in
+    let c9 = c7 .before .before in
+    let start = c9 .before .before in
+    held-join (start .pre .1) (c9 .cell-at .result) (c9 .cell-at .ensures) (c7 .if1 .left) (c5 .if2 .taken) (c4 .sets-held .result) (c4 .sets-held .ensures)
+    (c3 .sets-held2 .result) (c1 .larger .result) (c .larger2 .result) (c3 .sets-held2 .ensures) (c1 .larger .ensures) (c .larger2 .ensures)
 
 sets-held-sets-held-requires-3 : (t : ℕ) → sets-held-lts.Need-sets-held-requires-3 (calls t) (sets-held-at t) sets-held.Post
 sets-held-sets-held-requires-3 t c κs =
@@ -125,12 +129,8 @@ sets-held-add-larger-2 t c =
     let c4 = c3 .before in
     let c10 = c4 .before .before .before .before .before .before in
     let start = c10 .before .before in
-    omega (
-      arith,
-      held-few
-          (second-tree (start .pre .1) (c10 .cell-at .result) (c10 .cell-at .ensures) (c4 .if3 .taken) (c3 .sets-held3 .result) (c3 .sets-held3 .ensures) .0)
-          (c2 .sets-held4 .ensures),
-    )
+    let q = second-tree (start .pre .1) (c10 .cell-at .result) (c10 .cell-at .ensures) (c4 .if3 .taken) (c3 .sets-held3 .result) (c3 .sets-held3 .ensures) in
+    omega (arith, held-few (q .0) (c2 .sets-held4 .ensures) .0)
 
 sets-held-add-larger-3 : (t : ℕ) → sets-held-lts.Need-add-larger-3 (calls t) (sets-held-at t) sets-held.Post
 sets-held-add-larger-3 t c =
@@ -138,44 +138,114 @@ sets-held-add-larger-3 t c =
     let c5 = c4 .before in
     let c11 = c5 .before .before .before .before .before .before in
     let start = c11 .before .before in
-    omega (arith, held-few (third-tree (start .pre .1) (c11 .cell-at .result) (c11 .cell-at .ensures) (c5 .if3 .taken)) (c4 .sets-held3 .ensures))
-
-sets-held-larger-requires-2 : (t : ℕ) → sets-held-lts.Need-larger-requires-2 (calls t) (sets-held-at t) sets-held.Post
-sets-held-larger-requires-2 t c κs = tt
+    let s = third-tree (start .pre .1) (c11 .cell-at .result) (c11 .cell-at .ensures) (c5 .if3 .taken) in
+    omega (arith, held-few s (c4 .sets-held3 .ensures) .0)
 
 sets-held-larger-requires-3 : (t : ℕ) → sets-held-lts.Need-larger-requires-3 (calls t) (sets-held-at t) sets-held.Post
 sets-held-larger-requires-3 t c κs = tt
 
+sets-held-larger-requires-4 : (t : ℕ) → sets-held-lts.Need-larger-requires-4 (calls t) (sets-held-at t) sets-held.Post
+sets-held-larger-requires-4 t c κs = tt
+
+sets-held-larger-requires-5 : (t : ℕ) → sets-held-lts.Need-larger-requires-5 (calls t) (sets-held-at t) sets-held.Post
+sets-held-larger-requires-5 t c κs = tt
+
+sets-held-larger-requires-6 : (t : ℕ) → sets-held-lts.Need-larger-requires-6 (calls t) (sets-held-at t) sets-held.Post
+sets-held-larger-requires-6 t c κs = tt
+
 sets-held-returns-3 : (t : ℕ) → sets-held-lts.Need-returns-3 (calls t) (sets-held-at t) sets-held.Post
 sets-held-returns-3 t c =
     let c1 = c .before in
-    let c4 = c1 .before .before .before in
-    let c5 = c4 .before in
-    let c6 = c5 .before in
+    let c2 = c1 .before in
+    let c3 = c2 .before in
+    let c6 = c3 .before .before .before in
     let c7 = c6 .before in
-    let c13 = c7 .before .before .before .before .before .before in
-    let start = c13 .before .before in
-    held-override (start .pre .1) (c13 .cell-at .result) (c13 .cell-at .ensures) (c7 .if3 .taken) (c6 .sets-held3 .result) (c6 .sets-held3 .ensures)
-    (c5 .sets-held4 .result) (c5 .sets-held4 .ensures) (c4 .sets-held5 .result) (c .larger3 .result) (c4 .sets-held5 .ensures)
-    (c .larger3 .ensures ∙ ap (max (c4 .sets-held5 .result .sets)) (c1 .larger2 .ensures))
+    let c8 = c7 .before in
+    let c9 = c8 .before in
+    let c15 = c9 .before .before .before .before .before .before in
+    let start = c15 .before .before in
+    let p = c6 .sets-held5 in
+    held-override (start .pre .1) (c15 .cell-at .result) (c15 .cell-at .ensures) (c9 .if3 .taken) (c8 .sets-held3 .result) (c8 .sets-held3 .ensures)
+    (c7 .sets-held4 .result) (c7 .sets-held4 .ensures) (p .result) (c2 .larger4 .result) (c .larger6 .result) (p .ensures)
+    (c2 .larger4 .ensures ∙ ap (max (p .result .sets)) (c3 .larger3 .ensures)) (c .larger6 .ensures ∙ ap (max (p .result .bindings)) (c1 .larger5 .ensures))
 
 sets-held-sets-held-requires-6 : (t : ℕ) → sets-held-lts.Need-sets-held-requires-6 (calls t) (sets-held-at t) sets-held.Post
 sets-held-sets-held-requires-6 t c κs =
     let c2 = c .before .before in
-    let c6 = c2 .before .before .before .before in
-    let start = c6 .before .before in (
+    let c4 = c2 .before .before in
+    let c8 = c4 .before .before .before .before in
+    let start = c8 .before .before in (
       omega (arith, start .pre .0, some-tree (start .pre .1)),
-      one-tree (start .pre .1) (c6 .cell-at .result) (c6 .cell-at .ensures) (omega (arith, c2 .if2 .left, c .if3 .left)),
+      one-tree (start .pre .1) (c8 .cell-at .result) (c8 .cell-at .ensures) (omega (arith, c4 .if2 .left, c2 .if3 .left)) (c .if4 .taken),
     )
 
 sets-held-returns-4 : (t : ℕ) → sets-held-lts.Need-returns-4 (calls t) (sets-held-at t) sets-held.Post
 sets-held-returns-4 t c =
     let c1 = c .before in
     let c3 = c1 .before .before in
-    let c7 = c3 .before .before .before .before in
-    let start = c7 .before .before in
-    held-one (start .pre .1) (c7 .cell-at .result) (c7 .cell-at .ensures) (c .sets-held6 .result) (omega (arith, c3 .if2 .left, c1 .if3 .left))
+    let c5 = c3 .before .before in
+    let c9 = c5 .before .before .before .before in
+    let start = c9 .before .before in
+    held-one (start .pre .1) (c9 .cell-at .result) (c9 .cell-at .ensures) (omega (arith, c5 .if2 .left, c3 .if3 .left)) (c1 .if4 .taken) (c .sets-held6 .result)
     (c .sets-held6 .ensures)
+
+sets-held-sets-held-requires-7 : (t : ℕ) → sets-held-lts.Need-sets-held-requires-7 (calls t) (sets-held-at t) sets-held.Post
+sets-held-sets-held-requires-7 t c κs =
+    let c8 = c .before .before .before .before .before .before .before .before in
+    let start = c8 .before .before in (
+      omega (arith, start .pre .0, some-tree (start .pre .1)),
+      filling-tree (start .pre .1) (c8 .cell-at .result) (c8 .cell-at .ensures) (omega (arith, c .if4 .left)),
+    )
+
+sets-held-sets-held-requires-8 : (t : ℕ) → sets-held-lts.Need-sets-held-requires-8 (calls t) (sets-held-at t) sets-held.Post
+sets-held-sets-held-requires-8 t c κs =
+    let c1 = c .before in
+    let c9 = c1 .before .before .before .before .before .before .before .before in
+    let start = c9 .before .before in
+    let f = c .sets-held7 in
+    let v = body-tree (start .pre .1) (c9 .cell-at .result) (c9 .cell-at .ensures) (omega (arith, c1 .if4 .left)) (f .result) (f .ensures) in
+    (omega (arith, start .pre .0, v .1), v .0)
+
+sets-held-add-larger-4 : (t : ℕ) → sets-held-lts.Need-add-larger-4 (calls t) (sets-held-at t) sets-held.Post
+sets-held-add-larger-4 t c =
+    let c1 = c .before in
+    let c2 = c1 .before in
+    let c3 = c2 .before in
+    let c11 = c3 .before .before .before .before .before .before .before .before in
+    let start = c11 .before .before in
+    let f = c2 .sets-held7 in
+    let v = body-tree (start .pre .1) (c11 .cell-at .result) (c11 .cell-at .ensures) (omega (arith, c3 .if4 .left)) (f .result) (f .ensures) in
+    omega (arith, held-few (v .0) (c1 .sets-held8 .ensures) .0)
+
+sets-held-larger-requires-7 : (t : ℕ) → sets-held-lts.Need-larger-requires-7 (calls t) (sets-held-at t) sets-held.Post
+sets-held-larger-requires-7 t c κs = tt
+
+sets-held-add-larger-5 : (t : ℕ) → sets-held-lts.Need-add-larger-5 (calls t) (sets-held-at t) sets-held.Post
+sets-held-add-larger-5 t c =
+    let c3 = c .before .before .before in
+    let c4 = c3 .before in
+    let c5 = c4 .before in
+    let c13 = c5 .before .before .before .before .before .before .before .before in
+    let start = c13 .before .before in
+    let f = c4 .sets-held7 in
+    let v = body-tree (start .pre .1) (c13 .cell-at .result) (c13 .cell-at .ensures) (omega (arith, c5 .if4 .left)) (f .result) (f .ensures) in
+    omega (arith, held-few (v .0) (c3 .sets-held8 .ensures) .1)
+
+sets-held-larger-requires-8 : (t : ℕ) → sets-held-lts.Need-larger-requires-8 (calls t) (sets-held-at t) sets-held.Post
+sets-held-larger-requires-8 t c κs = tt
+
+sets-held-returns-5 : (t : ℕ) → sets-held-lts.Need-returns-5 (calls t) (sets-held-at t) sets-held.Post
+sets-held-returns-5 t c =
+    let c2 = c .before .before in
+    let c4 = c2 .before .before in
+    let c5 = c4 .before in
+    let c6 = c5 .before in
+    let c14 = c6 .before .before .before .before .before .before .before .before in
+    let start = c14 .before .before in
+    let f = c5 .sets-held7 in
+    let e = c4 .sets-held8 in
+    held-template (start .pre .1) (c14 .cell-at .result) (c14 .cell-at .ensures) (omega (arith, c6 .if4 .left)) (f .result) (f .ensures) (e .result)
+    (c2 .larger7 .result) (c .larger8 .result) (e .ensures) (c2 .larger7 .ensures) (c .larger8 .ensures)
 
 pub +sets-held-spec : {M : Type 1} → statement M
 +sets-held-spec = close μ-sets-held λ t. sets-held-lts.spec (calls t)
@@ -188,14 +258,24 @@ pub +sets-held-spec : {M : Type 1} → statement M
     (sets-held-sets-held-requires-2 t)
     (sets-held-add-larger t)
     (sets-held-larger-requires t)
+    (sets-held-larger-requires-2 t)
     (sets-held-returns-2 t)
     (sets-held-sets-held-requires-3 t)
     (sets-held-sets-held-requires-4 t)
     (sets-held-sets-held-requires-5 t)
     (sets-held-add-larger-2 t)
     (sets-held-add-larger-3 t)
-    (sets-held-larger-requires-2 t)
     (sets-held-larger-requires-3 t)
+    (sets-held-larger-requires-4 t)
+    (sets-held-larger-requires-5 t)
+    (sets-held-larger-requires-6 t)
     (sets-held-returns-3 t)
     (sets-held-sets-held-requires-6 t)
     (sets-held-returns-4 t)
+    (sets-held-sets-held-requires-7 t)
+    (sets-held-sets-held-requires-8 t)
+    (sets-held-add-larger-4 t)
+    (sets-held-larger-requires-7 t)
+    (sets-held-add-larger-5 t)
+    (sets-held-larger-requires-8 t)
+    (sets-held-returns-5 t)
