@@ -1,7 +1,7 @@
 -- The cells that an expression's text yields are the nodes of its tree, its operators are counted, and the place is that of its first name
 -- that is not declared. Assumes nothing.
-use mathlib.Core.Path.{_≡_, refl, ap, subst, _∙_}
-use mathlib.Core.Bool.{Bool, true, false}
+use mathlib.Core.Path.{_≡_, refl, sym, ap, subst, _∙_}
+use mathlib.Core.Bool.{Bool, true, false, not, _||_}
 use mathlib.Core.List.{List, [], _∷_, _++_}
 use mathlib.Core.Option.{Option, none, some, orElse}
 use Prim.Native.Nat.{ℕ, suc, _+_, _≤_, _<_, min}
@@ -10,24 +10,25 @@ use lib.Dec.{ltb}
 use lib.ListN.{length, length-append}
 use borrow.Author.Tests.{ltb-true, ltb-false, lt-ltb}
 use Rattle.algebra.specs.Answer.{Joiner, plus-sign, and-sign, minus-sign}
-use Rattle.algebra.specs.Algebra.{Tree, table, join, override, scope, operators}
+use Rattle.algebra.specs.Algebra.{Tree, table, join, override, scope, template, operators}
+use Rattle.algebra.specs.Lists.{only}
 use Rattle.algebra.specs.Policy.{Scope}
 use Rattle.algebra.specs.Order.{Op, le, ge, lt, gt, eq}
 use Rattle.algebra.specs.Stored.{storedOp, storedJoiner}
 use Rattle.algebra.specs.Nodes.{Node, join-node, size, Encodes}
-use Rattle.algebra.proofs.Nodes.{size-le, some-size, encodes-same, more-table, more-join, more-override, more-scope, more-closure}
+use Rattle.algebra.proofs.Nodes.{size-le, some-size, encodes-same, more-table, more-join, more-template, more-override, more-scope, more-closure}
 use Rattle.grammar.specs.Expression as Grammar
 use Rattle.grammar.specs.Expression.{Exp, one, more, Fac, plain, scoped, closed-by, Pri, table-name, bracket, byteJ}
 use Rattle.grammar.specs.Expression.{textS, textE, textF, textP}
 use Rattle.grammar.specs.Names as Names
-use Rattle.grammar.specs.Names.{Kind, rule-set, Named, namesS, namesE, namesF, namesP, names, firstMissing, missing}
-use Rattle.grammar.specs.Lookup.{found, place}
+use Rattle.grammar.specs.Names.{Kind, rule-set, Named, isFree, freeOf, namesS, namesE, namesF, namesP, names, firstMissing, missing}
+use Rattle.grammar.specs.Lookup.{same, found, place}
 use Rattle.names.specs.Entries.{sortNumber}
-use Rattle.grammar.specs.Tree.{scopeOf, treeOf, treeF, treeP}
+use Rattle.grammar.specs.Tree.{scopeOf, tableOf, treeE, treeF, treeP, treeOf}
 use Rattle.nodes.specs.Cells.{cell, cellIn, scopeIn, nodeOf, label}
 use Rattle.nodes.proofs.Puts.{put-length, put-elsewhere, put-here}
 use Rattle.words.specs.Cells.{opNumber, signNumber, most-cells, most-count, countedTo, operatorsAfter, stored, placeOf, firstPlace}
-use Rattle.words.specs.Cells.{lacking, noted, emitName, emitS, emitE, emitF, emitP, Yields}
+use Rattle.words.specs.Cells.{lacking, noted, emitName, boundAs, emitTable, emitS, emitE, emitF, emitP, Yields}
 use Rattle.names.proofs.Lookup.{stored-sort}
 use Rattle.words.proofs.Within.{filledE}
 use Rattle.grammar.proofs.Names.{entry}
@@ -159,6 +160,11 @@ module _ (p : Nodes) where
       counts-binary (cell (signNumber j) 0 0 0) p₁ p₂ l r (join j l r) refl refl (λ at at′ lo mid hi h q. more-join at at′ hi h j (q ∙ sign-cell j))
       (sign-operators j) x y
 
+  counts-template : (p₁ p₂ : Nodes) (e f : Tree Scope) → Counts p p₁ e → Counts p₁ p₂ f → Counts p (stored p₂ (cell 8 0 0 0)) (template e f)
+  unfolding size operators operatorsAfter nodeOf
+  counts-template p₁ p₂ e f x y =
+      counts-binary (cell 8 0 0 0) p₁ p₂ e f (template e f) refl refl (λ at at′ lo mid hi h q. more-template at at′ hi h q) (λ n. refl) x y
+
   override-operators : (p₁ p₂ p₃ : Nodes) (l m r : Tree Scope)
       → (p .operators + operators l ≤ most-count → p₁ .operators ≡ p .operators + operators l)
       → (p₁ .operators + operators m ≤ most-count → p₂ .operators ≡ p₁ .operators + operators m)
@@ -202,8 +208,8 @@ module _ (p : Nodes) where
       }
 
   unary-operators : (c : Cell) (p₁ : Nodes) (t t′ : Tree Scope) → operators t′ ≡ suc (operators t)
-      → ((n : ℕ) → operatorsAfter n (c .kind) ≡ countedTo most-count n) → (p .operators + operators t ≤ most-count → p₁ .operators ≡ p .operators + operators t) → p .operators + operators t′ ≤ most-count
-      → stored p₁ c .operators ≡ p .operators + operators t′
+      → ((n : ℕ) → operatorsAfter n (c .kind) ≡ countedTo most-count n) → (p .operators + operators t ≤ most-count → p₁ .operators ≡ p .operators + operators t)
+      → p .operators + operators t′ ≤ most-count → stored p₁ c .operators ≡ p .operators + operators t′
   unfolding stored
   unary-operators c p₁ t t′ o ops f z = let a = f (omega arith) in ops (p₁ .operators) ∙ one-more (p₁ .operators) (omega arith) ∙ omega arith
 
@@ -269,45 +275,64 @@ module _ (number : Kind → List ℕ → Option ℕ) where
       (λ at at′ lo hi h q. more-scope at at′ hi h _ (q ∙ rw (stored-sort σ))) (λ n. refl) (counts-noted p (number (Names.predicate σ) n) _ p₁ t x)
 
   mutual
-    unfolding emitE treeOf emitName nodeOf size operators operatorsAfter
+    unfolding emitE treeE emitName emitTable nodeOf size operators operatorsAfter
 
-    countsE : (e : Exp) (i : ℕ) (p : Nodes) → Counts p (emitE number e i p) (treeOf number e)
-    countsE (one f) i p = countsF f i p
-    countsE (more e j f) i p = counts-join p j _ _ _ _ (countsE e i p) (countsF f _ _)
+    countsE : (xs : List (List ℕ)) (e : Exp) (i : ℕ) (p : Nodes) → Counts p (emitE number xs e i p) (treeE number xs e)
+    countsE xs (one f) i p = countsF xs f i p
+    countsE xs (more e j f) i p = counts-join p j _ _ _ _ (countsE xs e i p) (countsF xs f _ _)
 
-    countsF : (f : Fac) (i : ℕ) (p : Nodes) → Counts p (emitF number f i p) (treeF number f)
-    countsF (plain q) i p = countsP q i p
-    countsF (scoped f c) i p = countsS c _ p _ _ (countsF f i p)
-    countsF (closed-by f n) i p =
-        counts-unary p (cell 7 0 0 (place (number rule-set n))) _ (treeF number f) _ refl refl
+    countsF : (xs : List (List ℕ)) (f : Fac) (i : ℕ) (p : Nodes) → Counts p (emitF number xs f i p) (treeF number xs f)
+    countsF xs (plain q) i p = countsP xs q i p
+    countsF xs (scoped f c) i p = countsS c _ p _ _ (countsF xs f i p)
+    countsF xs (closed-by f n) i p =
+        counts-unary p (cell 7 0 0 (place (number rule-set n))) _ (treeF number xs f) _ refl refl
         (λ at at′ lo hi h q. more-closure at at′ hi h _ q) (λ n. refl)
-        (counts-noted p (number rule-set n) _ _ _ (countsF f i p))
+        (counts-noted p (number rule-set n) _ _ _ (countsF xs f i p))
 
-    countsP : (q : Pri) (i : ℕ) (p : Nodes) → Counts p (emitP number q i p) (treeP number q)
-    countsP (table-name n) i p = counts-after p (number Names.table n) i _ _ (counts-table (noted (number Names.table n) i p) (place (number Names.table n)))
-    countsP (bracket e) i p = countsE e _ p
-    countsP (Grammar.override e f g) i p = counts-override p _ _ _ _ _ _ (countsE e _ p) (countsE f _ _) (countsE g _ _)
+    countsP : (xs : List (List ℕ)) (q : Pri) (i : ℕ) (p : Nodes) → Counts p (emitP number xs q i p) (treeP number xs q)
+    countsP xs (table-name n) i p = counts-after p (boundAs number xs n) i _ _ (counts-table (noted (boundAs number xs n) i p) (tableOf number xs n))
+    countsP xs (bracket e) i p = countsE xs e _ p
+    countsP xs (Grammar.override e f g) i p = counts-override p _ _ _ _ _ _ (countsE xs e _ p) (countsE xs f _ _) (countsE xs g _ _)
+    countsP xs (Grammar.template x e f) i p = counts-template p _ _ _ _ (countsE (x ∷ xs) e _ p) (countsE xs f _ _)
 
   -- ---- and the place of its first name that is not declared
-  declared : Kind → List ℕ → Bool
-  declared k n = found (number k n)
+  -- where the names xs are bound, a table's name may be one of them
+  declared : List (List ℕ) → Kind → List ℕ → Bool
+  declared [] k n = found (number k n)
+  declared (x ∷ xs) k n = not (isFree x k n) || declared xs k n
 
-  abbrev Misses : Nodes → Nodes → List Named → Type 0
-  Misses p p′ ns = placeOf (p′ .missing) ≡ orElse (placeOf (p .missing)) (firstMissing declared ns)
+  abbrev Misses : List (List ℕ) → Nodes → Nodes → List Named → Type 0
+  Misses xs p p′ ns = placeOf (p′ .missing) ≡ orElse (placeOf (p .missing)) (firstMissing (declared xs) ns)
 
-  first-append : (ms ns : List Named) → firstMissing declared (ms ++ ns) ≡ orElse (firstMissing declared ms) (firstMissing declared ns)
+  first-append : (xs : List (List ℕ)) (ms ns : List Named)
+      → firstMissing (declared xs) (ms ++ ns) ≡ orElse (firstMissing (declared xs) ms) (firstMissing (declared xs) ns)
   unfolding firstMissing orElse
-  first-append [] ns = refl
-  first-append (m ∷ ms) ns = go (declared (m .kind) (m .name)) (first-append ms ns)
+  first-append xs [] ns = refl
+  first-append xs (m ∷ ms) ns = go (declared xs (m .kind) (m .name)) (first-append xs ms ns)
     where
-      go : (b : Bool) → firstMissing declared (ms ++ ns) ≡ orElse (firstMissing declared ms) (firstMissing declared ns)
-          → _≡_ {A = Option ℕ} (elim b [ true ↦ firstMissing declared (ms ++ ns) | false ↦ some (m .place) ])
-          (orElse (elim b [ true ↦ firstMissing declared ms | false ↦ some (m .place) ]) (firstMissing declared ns))
+      go : (b : Bool) → firstMissing (declared xs) (ms ++ ns) ≡ orElse (firstMissing (declared xs) ms) (firstMissing (declared xs) ns)
+          → _≡_ {A = Option ℕ} (elim b [ true ↦ firstMissing (declared xs) (ms ++ ns) | false ↦ some (m .place) ])
+          (orElse (elim b [ true ↦ firstMissing (declared xs) ms | false ↦ some (m .place) ]) (firstMissing (declared xs) ns))
       go true e = e
       go false e = refl
 
-  misses-append : (p p₁ p₂ : Nodes) (ms ns : List Named) → Misses p p₁ ms → Misses p₁ p₂ ns → Misses p p₂ (ms ++ ns)
-  misses-append p p₁ p₂ ms ns x y = y ∙ rw (x, or-else-assoc, first-append ms ns)
+  misses-append : (xs : List (List ℕ)) (p p₁ p₂ : Nodes) (ms ns : List Named) → Misses xs p p₁ ms → Misses xs p₁ p₂ ns → Misses xs p p₂ (ms ++ ns)
+  misses-append xs p p₁ p₂ ms ns x y = y ∙ rw (x, or-else-assoc, first-append xs ms ns)
+
+  -- a name that x binds is not missing
+  first-bound : (x : List ℕ) (xs : List (List ℕ)) (ns : List Named) → firstMissing (declared (x ∷ xs)) ns ≡ firstMissing (declared xs) (freeOf x ns)
+  unfolding firstMissing freeOf declared
+  first-bound x xs [] = refl
+  first-bound x xs (m ∷ ns) = go (isFree x (m .kind) (m .name)) (first-bound x xs ns)
+    where
+      go : (b : Bool) → firstMissing (declared (x ∷ xs)) ns ≡ firstMissing (declared xs) (freeOf x ns)
+          → _≡_ {A = Option ℕ} (elim (not b || declared xs (m .kind) (m .name)) [ true ↦ firstMissing (declared (x ∷ xs)) ns | false ↦ some (m .place) ])
+          (firstMissing (declared xs) (only b (m ∷ []) ++ freeOf x ns))
+      go true e = ap (λ (o : Option ℕ). elim (declared xs (m .kind) (m .name)) [ true ↦ o | false ↦ some (m .place) ]) e
+      go false e = e
+
+  misses-bound : (x : List ℕ) (xs : List (List ℕ)) (p p₁ : Nodes) (ns : List Named) → Misses (x ∷ xs) p p₁ ns → Misses xs p p₁ (freeOf x ns)
+  misses-bound x xs p p₁ ns m = m ∙ ap (orElse (placeOf (p .missing))) (first-bound x xs ns)
 
   noted-place : (o : Option ℕ) (i : ℕ) (p : Nodes)
       → placeOf (noted o i p .missing) ≡ orElse (placeOf (p .missing)) (elim (found o) [ true ↦ none | false ↦ some i ])
@@ -323,88 +348,130 @@ module _ (number : Kind → List ℕ → Option ℕ) where
       go (At j) = refl
       go Nowhere = refl
 
-  misses-name : (k : Kind) (n : List ℕ) (i : ℕ) (c : Cell) (p p₁ : Nodes) (ms : List Named) → Misses p p₁ ms
-      → Misses p (emitName number k n i c p₁) (ms ++ (entry k n i ∷ []))
-  unfolding emitName stored firstMissing declared
-  misses-name k n i c p p₁ ms x = misses-append p p₁ (emitName number k n i c p₁) ms (entry k n i ∷ []) x (noted-place (number k n) i p₁)
+  -- names that are no tables' are not bound
+  other-declared : (xs : List (List ℕ)) (k : Kind) (n : List ℕ) → ((x : List ℕ) → isFree x k n ≡ true) → declared xs k n ≡ found (number k n)
+  unfolding declared
+  other-declared [] k n h = refl
+  other-declared (x ∷ xs) k n h = rw (h x) (other-declared xs k n h)
 
-  missesS : (c : Grammar.Scope) (i : ℕ) (p p₁ : Nodes) (ms : List Named) → Misses p p₁ ms → Misses p (emitS number c i p₁) (ms ++ namesS c i)
-  unfolding emitS namesS
-  missesS (Grammar.compare σ o n) i p p₁ ms x = misses-name (Names.member σ) n _ _ p p₁ ms x
-  missesS (Grammar.marked n σ) i p p₁ ms x = misses-name (Names.predicate σ) n i _ p p₁ ms x
+  table-declared : (xs : List (List ℕ)) (n : List ℕ) → declared xs Names.table n ≡ found (boundAs number xs n)
+  unfolding declared boundAs isFree found
+  table-declared [] n = refl
+  table-declared (x ∷ xs) n = go (same n x) (table-declared xs n)
+    where
+      go : (b : Bool) → declared xs Names.table n ≡ found (boundAs number xs n)
+          → (not (not b) || declared xs Names.table n) ≡ found {A = ℕ} (elim b [ true ↦ some 0 | false ↦ boundAs number xs n ])
+      go true e = refl
+      go false e = e
 
-  misses-none : (p : Nodes) → Misses p p []
+  misses-noted : (xs : List (List ℕ)) (k : Kind) (n : List ℕ) (o : Option ℕ) (i : ℕ) (c : Cell) (p p₁ : Nodes) (ms : List Named)
+      → declared xs k n ≡ found o → Misses xs p p₁ ms → Misses xs p (stored (noted o i p₁) c) (ms ++ (entry k n i ∷ []))
+  unfolding stored firstMissing
+  misses-noted xs k n o i c p p₁ ms d x =
+      misses-append xs p p₁ (stored (noted o i p₁) c) ms (entry k n i ∷ []) x
+      (noted-place o i p₁ ∙ ap (λ (b : Bool). orElse (placeOf (p₁ .missing)) (elim b [ true ↦ none | false ↦ some i ])) (sym d))
+
+  misses-name : (xs : List (List ℕ)) (k : Kind) (n : List ℕ) (i : ℕ) (c : Cell) (p p₁ : Nodes) (ms : List Named) → ((x : List ℕ) → isFree x k n ≡ true)
+      → Misses xs p p₁ ms → Misses xs p (emitName number k n i c p₁) (ms ++ (entry k n i ∷ []))
+  unfolding emitName
+  misses-name xs k n i c p p₁ ms h x = misses-noted xs k n (number k n) i _ p p₁ ms (other-declared xs k n h) x
+
+  missesS : (xs : List (List ℕ)) (c : Grammar.Scope) (i : ℕ) (p p₁ : Nodes) (ms : List Named) → Misses xs p p₁ ms
+      → Misses xs p (emitS number c i p₁) (ms ++ namesS c i)
+  unfolding emitS namesS isFree
+  missesS xs (Grammar.compare σ o n) i p p₁ ms x = misses-name xs (Names.member σ) n _ _ p p₁ ms (λ y. refl) x
+  missesS xs (Grammar.marked n σ) i p p₁ ms x = misses-name xs (Names.predicate σ) n i _ p p₁ ms (λ y. refl) x
+
+  misses-none : (xs : List (List ℕ)) (p : Nodes) → Misses xs p p []
   unfolding orElse firstMissing
-  misses-none p = go (placeOf (p .missing))
+  misses-none xs p = go (placeOf (p .missing))
     where
       go : (x : Option ℕ) → x ≡ orElse x none
       go none = refl
       go (some i) = refl
 
   mutual
-    unfolding emitE namesE stored
+    unfolding emitE emitTable namesE stored isFree
 
-    missesE : (e : Exp) (i : ℕ) (p : Nodes) → Misses p (emitE number e i p) (namesE e i)
-    missesE (one f) i p = missesF f i p
-    missesE (more e j f) i p = misses-append p (emitE number e i p) (emitF number f _ _) (namesE e i) _ (missesE e i p) (missesF f _ _)
+    missesE : (xs : List (List ℕ)) (e : Exp) (i : ℕ) (p : Nodes) → Misses xs p (emitE number xs e i p) (namesE e i)
+    missesE xs (one f) i p = missesF xs f i p
+    missesE xs (more e j f) i p =
+        misses-append xs p (emitE number xs e i p) (emitF number xs f _ _) (namesE e i) _ (missesE xs e i p) (missesF xs f _ _)
 
-    missesF : (f : Fac) (i : ℕ) (p : Nodes) → Misses p (emitF number f i p) (namesF f i)
-    missesF (plain q) i p = missesP q i p
-    missesF (scoped f c) i p = missesS c _ p (emitF number f i p) (namesF f i) (missesF f i p)
-    missesF (closed-by f n) i p = misses-name rule-set n _ _ p (emitF number f i p) (namesF f i) (missesF f i p)
+    missesF : (xs : List (List ℕ)) (f : Fac) (i : ℕ) (p : Nodes) → Misses xs p (emitF number xs f i p) (namesF f i)
+    missesF xs (plain q) i p = missesP xs q i p
+    missesF xs (scoped f c) i p = missesS xs c _ p (emitF number xs f i p) (namesF f i) (missesF xs f i p)
+    missesF xs (closed-by f n) i p = misses-name xs rule-set n _ _ p (emitF number xs f i p) (namesF f i) (λ y. refl) (missesF xs f i p)
 
-    missesP : (q : Pri) (i : ℕ) (p : Nodes) → Misses p (emitP number q i p) (namesP q i)
-    missesP (table-name n) i p = misses-name Names.table n i _ p p [] (misses-none p)
-    missesP (bracket e) i p = missesE e _ p
-    missesP (Grammar.override e f g) i p =
+    missesP : (xs : List (List ℕ)) (q : Pri) (i : ℕ) (p : Nodes) → Misses xs p (emitP number xs q i p) (namesP q i)
+    missesP xs (table-name n) i p =
+        misses-noted xs Names.table n (boundAs number xs n) i (cell 0 0 0 (tableOf number xs n)) p p [] (table-declared xs n) (misses-none xs p)
+    missesP xs (bracket e) i p = missesE xs e _ p
+    missesP xs (Grammar.override e f g) i p =
         let u : ℕ = i + 2 + length (textE e) + 1 in
         let v : ℕ = u + length (textE f) + 1 in
-        let p₁ : Nodes = emitE number e (i + 2) p in
-        let p₂ : Nodes = emitE number f u p₁ in
-        misses-append p p₁ (emitE number g v p₂) (namesE e (i + 2)) (namesE f u ++ namesE g v) (missesE e (i + 2) p)
-        (misses-append p₁ p₂ (emitE number g v p₂) (namesE f u) (namesE g v) (missesE f u p₁) (missesE g v p₂))
+        let p₁ : Nodes = emitE number xs e (i + 2) p in
+        let p₂ : Nodes = emitE number xs f u p₁ in
+        misses-append xs p p₁ (emitE number xs g v p₂) (namesE e (i + 2)) (namesE f u ++ namesE g v) (missesE xs e (i + 2) p)
+        (misses-append xs p₁ p₂ (emitE number xs g v p₂) (namesE f u) (namesE g v) (missesE xs f u p₁) (missesE xs g v p₂))
+    missesP xs (Grammar.template x e f) i p =
+        let u : ℕ = i + 3 + length x + 1 in
+        let v : ℕ = u + length (textE e) + 2 in
+        let p₁ : Nodes = emitE number (x ∷ xs) e u p in
+        misses-append xs p p₁ (emitE number xs f v p₁) (freeOf x (namesE e u)) (namesE f v)
+        (misses-bound x xs p p₁ (namesE e u) (missesE (x ∷ xs) e u p)) (missesE xs f v p₁)
 
   -- ---- a text's length bounds the counts
   mutual
-    unfolding treeOf operators textE
+    unfolding treeE operators textE
 
-    operatorsE : (e : Exp) → operators (treeOf number e) ≤ length (textE e)
-    operatorsE (one f) = operatorsF f
-    operatorsE (more e j f) =
-        omega (arith, operatorsE e, operatorsF f, length-append (textE e) (byteJ j ∷ textF f))
+    operatorsE : (xs : List (List ℕ)) (e : Exp) → operators (treeE number xs e) ≤ length (textE e)
+    operatorsE xs (one f) = operatorsF xs f
+    operatorsE xs (more e j f) =
+        omega (arith, operatorsE xs e, operatorsF xs f, length-append (textE e) (byteJ j ∷ textF f))
 
-    operatorsF : (f : Fac) → operators (treeF number f) ≤ length (textF f)
-    operatorsF (plain q) = operatorsP q
-    operatorsF (scoped f c) = omega (arith, operatorsF f, length-append (textF f) (94 ∷ 91 ∷ (textS c ++ (93 ∷ []))))
-    operatorsF (closed-by f n) = omega (arith, operatorsF f, length-append (textF f) (42 ∷ n))
+    operatorsF : (xs : List (List ℕ)) (f : Fac) → operators (treeF number xs f) ≤ length (textF f)
+    operatorsF xs (plain q) = operatorsP xs q
+    operatorsF xs (scoped f c) = omega (arith, operatorsF xs f, length-append (textF f) (94 ∷ 91 ∷ (textS c ++ (93 ∷ []))))
+    operatorsF xs (closed-by f n) = omega (arith, operatorsF xs f, length-append (textF f) (42 ∷ n))
 
-    operatorsP : (q : Pri) → operators (treeP number q) ≤ length (textP q)
-    operatorsP (table-name n) = omega arith
-    operatorsP (bracket e) = omega (arith, operatorsE e, length-append (textE e) (41 ∷ []))
-    operatorsP (Grammar.override e f g) =
+    operatorsP : (xs : List (List ℕ)) (q : Pri) → operators (treeP number xs q) ≤ length (textP q)
+    operatorsP xs (table-name n) = omega arith
+    operatorsP xs (bracket e) = omega (arith, operatorsE xs e, length-append (textE e) (41 ∷ []))
+    operatorsP xs (Grammar.override e f g) =
         omega (
           arith,
-          operatorsE e,
-          operatorsE f,
-          operatorsE g,
+          operatorsE xs e,
+          operatorsE xs f,
+          operatorsE xs g,
           length-append (textE e) (44 ∷ (textE f ++ (44 ∷ (textE g ++ (41 ∷ []))))),
           length-append (textE f) (44 ∷ (textE g ++ (41 ∷ []))),
           length-append (textE g) (41 ∷ []),
         )
+    operatorsP xs (Grammar.template x e f) =
+        omega (
+          arith,
+          operatorsE (x ∷ xs) e,
+          operatorsE xs f,
+          length-append x (46 ∷ (textE e ++ (41 ∷ 40 ∷ (textE f ++ (41 ∷ []))))),
+          length-append (textE e) (41 ∷ 40 ∷ (textE f ++ (41 ∷ []))),
+          length-append (textE f) (41 ∷ []),
+        )
 
   -- ---- from no node on
-  pub yields : (e : Exp) (p : Nodes) → Empty p → length (textE e) ≤ 32768 → Yields number e (emitE number e 0 p)
-  unfolding missing names orElse declared
+  pub yields : (e : Exp) (p : Nodes) → Empty p → length (textE e) ≤ 32768 → Yields number e (emitE number [] e 0 p)
+  unfolding missing names orElse declared treeOf
   yields e p z l =
       let t = treeOf number e in
-      let x = countsE e 0 p in
+      let x = countsE [] e 0 p in
       let u = z .no-cells in
-      let fill = filledE number e 0 p record { long = z .room; few = omega arith; within = λ m j b. absurd (omega arith) } in
+      let fill = filledE number [] e 0 p record { long = z .room; few = omega arith; within = λ m j b. absurd (omega arith) } in
       record {
         long = fill .long;
         few = fill .few;
-        tree = λ o. subst (λ i. Encodes (label (emitE number e 0 p .cells)) t i (emitE number e 0 p .used)) u (x .nodes (z .room) (omega (arith, size-le t)));
-        operators-are = omega (arith, z .no-operators, operatorsE e, x .operators-add (omega (arith, z .no-operators, operatorsE e)));
-        missing-is = missesE e 0 p ∙ ap (λ (m : Place). orElse (placeOf m) (firstMissing declared (namesE e 0))) (z .no-place);
+        tree = λ o. subst (λ i. Encodes (label (emitE number [] e 0 p .cells)) t i (emitE number [] e 0 p .used)) u
+            (x .nodes (z .room) (omega (arith, size-le t)));
+        operators-are = omega (arith, z .no-operators, operatorsE [] e, x .operators-add (omega (arith, z .no-operators, operatorsE [] e)));
+        missing-is = missesE [] e 0 p ∙ ap (λ (m : Place). orElse (placeOf m) (firstMissing (declared []) (namesE e 0))) (z .no-place);
         within = fill .within;
       }

@@ -75,9 +75,9 @@ module _ (t : List ℕ) (at : ℕ) where
                 past = omega (arith, s .past);
                 within = s .within;
                 spans = λ f. omega (arith, length-append (textF f) (42 ∷ m), s .past);
-                emits = λ f i u h w. rw (w, h);
+                emits = λ xs f i u h w. rw (w, h);
                 reads = λ a ks l f. to-star a ks l f ∙ s .reads a ks (at-ruleset l f) (begin a ks (at-ruleset l f)) (ruleset-starts a ks l f _)
-                    ∙ settle-ruleset a ks l m (s .no-sort) f (drop n t) g;
+                    ∙ settle-ruleset a ks l m (s .no-letter) f (drop n t) g;
               },
         )
 
@@ -112,8 +112,8 @@ module _ (t : List ℕ) (at : ℕ) where
                   past = omega (arith, s .past);
                   within = s .within;
                   spans = λ f. omega (arith, n, length-append (textF f) (94 ∷ 91 ∷ (textS (s .tree) ++ (93 ∷ []))), length-append (textS (s .tree)) (93 ∷ []));
-                  emits = λ f i u h w. s .emits number p ∙ ap (λ (v : Nodes). emitS number (s .tree) (at + 1 + 1) v) w
-                      ∙ ap (λ (j : ℕ). emitS number (s .tree) j (emitF number f i u)) (omega arith);
+                  emits = λ xs f i u h w. s .emits number p ∙ ap (λ (v : Nodes). emitS number (s .tree) (at + 1 + 1) v) w
+                      ∙ ap (λ (j : ℕ). emitS number (s .tree) j (emitF number xs f i u)) (omega arith);
                   reads = λ a ks l f. to-scope a ks l f ∙ s .reads a ks l f;
                 },
           )
@@ -122,7 +122,7 @@ module _ (t : List ℕ) (at : ℕ) where
 module _ (number : Kind → List ℕ → Option ℕ) (t : List ℕ) (at : ℕ) (p : Nodes) where
   pub xs-first : at ≤ length t → ReadsSuffixes number t at at p p
   xs-first h =
-      record { with = λ f. f; past = omega arith; within = h; spans = λ f. refl; emits = λ f i u e w. w; reads = λ a ks l f. refl }
+      record { with = λ f. f; past = omega arith; within = h; spans = λ f. refl; emits = λ xs f i u e w. w; reads = λ a ks l f. refl }
 
   module _ (i : ℕ) (q : Nodes) (x : ReadsSuffixes number t at i p q) where
     pub xs-end : suffixByte (getD t i 0) ≡ false → SuffixesAt number t at p q (Good i)
@@ -157,6 +157,6 @@ module _ (number : Kind → List ℕ → Option ℕ) (t : List ℕ) (at : ℕ) (
             past = omega (arith, x .past, s .past);
             within = s .within;
             spans = λ f. omega (arith, x .spans f, s .spans (x .with f));
-            emits = λ f j u h w. g ∙ s .emits (x .with f) j u (omega (arith, x .spans f)) (x .emits f j u h w);
+            emits = λ ns f j u h w. g ∙ s .emits ns (x .with f) j u (omega (arith, x .spans f)) (x .emits ns f j u h w);
             reads = λ a ks l f. x .reads a ks l f ∙ s .reads a ks l (x .with f);
           }

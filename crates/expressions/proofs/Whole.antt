@@ -8,7 +8,8 @@ use native.Mathlib.Omega.{arith}
 use lib.Dec.{eqb}
 use lib.ListN.{length, drop, length-drop}
 use Rattle.grammar.specs.Expression.{Exp, most-open}
-use Rattle.grammar.specs.Machine.{start, join, State, need, have, closed, parted, delimited, stuck, whole, last, finish, step, run, Reading, read, wrong, told}
+use Rattle.grammar.specs.Machine.{start, join, State, need, have, closed, parted, binding, delimited, stuck, whole, last, finish, step, run, Reading, read}
+use Rattle.grammar.specs.Machine.{wrong, told}
 use Rattle.grammar.specs.Machine.{reading}
 use Rattle.grammar.specs.Names.{Kind}
 use Rattle.words.specs.Cells.{Yields}
@@ -32,14 +33,14 @@ module _ (number : Kind → List ℕ → Option ℕ) (t : List ℕ) (p q : Nodes
       let x : reading t ≡ wrong n = reading-is t ∙ ap (told t) e ∙ ap wrong (omega (arith, length-drop n t)) in
       subst (λ (v : Reading). Told number t v record { answer = Bad n; nodes = d }) (sym x) refl
 
-  pub r-bad : (d : Nodes) {n : ℕ} {r : Parsed} → r ≡ Bad n → ExpressionAt number t 0 32 p q r → Answer number t record { answer = Bad n; nodes = d }
-  unfolding ExpressionAt
-  r-bad d e x = let s = subst (ExpressionAt number t 0 32 p q) e x in told-stuck _ d (s .within) (s .stops [])
+  pub r-bad : (d : Nodes) {n : ℕ} {r : Parsed} → r ≡ Bad n → ExpressionAt number [] t 0 32 p q r → Answer number t record { answer = Bad n; nodes = d }
+  unfolding ExpressionAt binding
+  r-bad d e x = let s = subst (ExpressionAt number [] t 0 32 p q) e x in told-stuck _ d (s .within) (s .stops [] (λ b c a. refl))
 
-  module _ {n : ℕ} {r : Parsed} (e : r ≡ Good n) (x : ExpressionAt number t 0 32 p q r) where
-    the-expression : ReadsExpression number t 0 32 n p q
+  module _ {n : ℕ} {r : Parsed} (e : r ≡ Good n) (x : ExpressionAt number [] t 0 32 p q r) where
+    the-expression : ReadsExpression number [] t 0 32 n p q
     unfolding ExpressionAt
-    the-expression = subst (ExpressionAt number t 0 32 p q) e x
+    the-expression = subst (ExpressionAt number [] t 0 32 p q) e x
 
     pub r-rest : (d : Nodes) → (n ≡ length t → ⊥) → Answer number t record { answer = Bad n; nodes = d }
     unfolding step

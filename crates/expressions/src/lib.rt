@@ -15,25 +15,33 @@ use words::Passed;
 use words::Place;
 use words::ScopeRead;
 use words::ScopeText;
+use words::is_binding;
 use words::is_settled;
 use words::is_suffix;
 use words::peek;
 use words::put;
+use words::put_first;
 use words::put_name;
+use words::put_table;
 use words::read_name;
 use words::scope;
 use words::sign;
 use words::word;
-use words::word_sort;
+use words::word_letter;
 ghost use mathlib.Core.Path.{_≡_};
 ghost use mathlib.Core.Bool.{true};
-ghost use Prim.Native.Nat.{_≤_};
+ghost use mathlib.Core.List.{[], _∷_};
+ghost use Prim.Native.Nat.{_+_, _≤_, _<_};
 ghost use lib.ListN.{length, getD};
-ghost use Rattle.words.specs.Contract.{suffixByte, SuffixAt, SuffixesAt, PrimaryAt, FactorAt, MoreAt, ExpressionAt, PartAt, OverrideAt, Answer};
+ghost use lib.Seq.{slice};
+ghost use Rattle.words.specs.Contract.{suffixByte, Bound, SuffixAt, SuffixesAt, PrimaryAt, FactorAt, MoreAt, ExpressionAt, PartAt, OverrideAt};
+ghost use Rattle.words.specs.Contract.{FillingAt, TemplateAt, Answer};
 ghost use Rattle.words.specs.Cells.{nodesIn};
+ghost use Rattle.name_index.specs.Parts.{namesAt};
 ghost use Rattle.names.specs.Entries.{Sound, lookupIn};
 
 // ---- the parts of an expression. Each is lent the cells so far, in the slice m, and takes what is known of them, and how many brackets more may be opened.
+// Where so many names are bound, the innermost first, they stand in t from firsts[i] up to lasts[i].
 
 // A scope or a closure after a primary.
 fn suffix(t: &[u8], at: usize) -> ScopeRead
@@ -81,7 +89,8 @@ fn suffixes<'a>(
     p: Drawn,
 ) -> Passed
     requires { ⌜ Sound (now f) (now starts) (now ends) (now tags) counts × (at ≤ length (now t)) × (772 ≤ length (now m)) ⌝ }
-    ensures { λ r. ⌜ SuffixesAt (lookupIn (now (f .entry)) (now (starts .entry)) (now (ends .entry)) (now (tags .entry)) counts) (now (t .entry)) at (nodesIn (now (m .entry)) p) (nodesIn (now (m .exit)) (r .drawn)) (r .answer) ⌝ }
+    ensures { λ r. ⌜ SuffixesAt (lookupIn (now (f .entry)) (now (starts .entry)) (now (ends .entry)) (now (tags .entry)) counts) (now (t .entry)) at
+        (nodesIn (now (m .entry)) p) (nodesIn (now (m .exit)) (r .drawn)) (r .answer) ⌝ }
 {
     let mut q = p;
     let mut i = at;
@@ -131,6 +140,9 @@ fn primary<'a>(
     t: &'a [u8],
     at: usize,
     allow: usize,
+    firsts: &'a [u16],
+    lasts: &'a [u16],
+    bound: u8,
     f: &'a [u8],
     starts: &'a [u16],
     ends: &'a [u16],
@@ -139,7 +151,10 @@ fn primary<'a>(
     p: Drawn,
 ) -> Passed
     requires { ⌜ Sound (now f) (now starts) (now ends) (now tags) counts × (at ≤ length (now t)) × (772 ≤ length (now m)) ⌝ }
-    ensures { λ r. ⌜ PrimaryAt (lookupIn (now (f .entry)) (now (starts .entry)) (now (ends .entry)) (now (tags .entry)) counts) (now (t .entry)) at allow (nodesIn (now (m .entry)) p) (nodesIn (now (m .exit)) (r .drawn)) (r .answer) ⌝ }
+    requires { ⌜ Bound (now t) (now firsts) (now lasts) bound allow (counts .tables) ⌝ }
+    ensures { λ r. ⌜ PrimaryAt (lookupIn (now (f .entry)) (now (starts .entry)) (now (ends .entry)) (now (tags .entry)) counts)
+        (namesAt (now (t .entry)) (now (firsts .entry)) (now (lasts .entry)) 0 bound) (now (t .entry)) at allow
+        (nodesIn (now (m .entry)) p) (nodesIn (now (m .exit)) (r .drawn)) (r .answer) ⌝ }
 {
     if peek(t, at) == b'(' {
         if allow == 0 {
@@ -148,12 +163,32 @@ fn primary<'a>(
                 drawn: p,
             };
         }
+        if is_binding(t, at + 1) {
+            return template(
+                m,
+                t,
+                at + 3,
+                allow - 1,
+                firsts,
+                lasts,
+                bound,
+                f,
+                starts,
+                ends,
+                tags,
+                counts,
+                p,
+            );
+        }
         let v = part(
             m,
             t,
             at + 1,
             allow - 1,
             b')',
+            firsts,
+            lasts,
+            bound,
             f,
             starts,
             ends,
@@ -184,26 +219,21 @@ fn primary<'a>(
             drawn: p,
         },
         Parsed::Good(e) => {
-            let sort = word_sort(t, at, e);
-            if sort == 3 {
-                let cell = Cell {
-                    kind: 0,
-                    sort: 0,
-                    op: 0,
-                    number: 0,
-                };
-                let q = put_name(
+            let letter = word_letter(t, at, e);
+            if letter == 3 {
+                let q = put_table(
                     m,
                     f,
                     starts,
                     ends,
                     tags,
                     counts,
-                    NameKind::Table,
+                    firsts,
+                    lasts,
+                    bound,
                     t,
                     at,
                     e,
-                    cell,
                     p,
                 );
                 return Passed {
@@ -211,7 +241,7 @@ fn primary<'a>(
                     drawn: q,
                 };
             }
-            if sort != 1 {
+            if letter != 1 {
                 return Passed {
                     answer: Parsed::Bad(e),
                     drawn: p,
@@ -229,7 +259,21 @@ fn primary<'a>(
                     drawn: p,
                 };
             }
-            overridden(m, t, e + 1, allow - 1, f, starts, ends, tags, counts, p)
+            overridden(
+                m,
+                t,
+                e + 1,
+                allow - 1,
+                firsts,
+                lasts,
+                bound,
+                f,
+                starts,
+                ends,
+                tags,
+                counts,
+                p,
+            )
         }
     }
 }
@@ -240,6 +284,9 @@ fn overridden<'a>(
     t: &'a [u8],
     at: usize,
     allow: usize,
+    firsts: &'a [u16],
+    lasts: &'a [u16],
+    bound: u8,
     f: &'a [u8],
     starts: &'a [u16],
     ends: &'a [u16],
@@ -248,9 +295,27 @@ fn overridden<'a>(
     p: Drawn,
 ) -> Passed
     requires { ⌜ Sound (now f) (now starts) (now ends) (now tags) counts × (at ≤ length (now t)) × (772 ≤ length (now m)) ⌝ }
-    ensures { λ r. ⌜ OverrideAt (lookupIn (now (f .entry)) (now (starts .entry)) (now (ends .entry)) (now (tags .entry)) counts) (now (t .entry)) at allow (nodesIn (now (m .entry)) p) (nodesIn (now (m .exit)) (r .drawn)) (r .answer) ⌝ }
+    requires { ⌜ Bound (now t) (now firsts) (now lasts) bound allow (counts .tables) ⌝ }
+    ensures { λ r. ⌜ OverrideAt (lookupIn (now (f .entry)) (now (starts .entry)) (now (ends .entry)) (now (tags .entry)) counts)
+        (namesAt (now (t .entry)) (now (firsts .entry)) (now (lasts .entry)) 0 bound) (now (t .entry)) at allow
+        (nodesIn (now (m .entry)) p) (nodesIn (now (m .exit)) (r .drawn)) (r .answer) ⌝ }
 {
-    let v = part(m, t, at, allow, b',', f, starts, ends, tags, counts, p);
+    let v = part(
+        m,
+        t,
+        at,
+        allow,
+        b',',
+        firsts,
+        lasts,
+        bound,
+        f,
+        starts,
+        ends,
+        tags,
+        counts,
+        p,
+    );
     let k = v.answer;
     let q = v.drawn;
     match k {
@@ -259,7 +324,22 @@ fn overridden<'a>(
             drawn: p,
         },
         Parsed::Good(i) => {
-            let v2 = part(m, t, i + 1, allow, b',', f, starts, ends, tags, counts, q);
+            let v2 = part(
+                m,
+                t,
+                i + 1,
+                allow,
+                b',',
+                firsts,
+                lasts,
+                bound,
+                f,
+                starts,
+                ends,
+                tags,
+                counts,
+                q,
+            );
             let k2 = v2.answer;
             let q2 = v2.drawn;
             match k2 {
@@ -268,7 +348,22 @@ fn overridden<'a>(
                     drawn: p,
                 },
                 Parsed::Good(j) => {
-                    let v3 = part(m, t, j + 1, allow, b')', f, starts, ends, tags, counts, q2);
+                    let v3 = part(
+                        m,
+                        t,
+                        j + 1,
+                        allow,
+                        b')',
+                        firsts,
+                        lasts,
+                        bound,
+                        f,
+                        starts,
+                        ends,
+                        tags,
+                        counts,
+                        q2,
+                    );
                     let k3 = v3.answer;
                     let q3 = v3.drawn;
                     match k3 {
@@ -296,13 +391,15 @@ fn overridden<'a>(
     }
 }
 
-// An expression in brackets, up to the byte that ends it.
-fn part<'a>(
+// A template, from its x on: a name, a point, E where that name is bound, and F.
+fn template<'a>(
     m: &mut [u8],
     t: &'a [u8],
     at: usize,
     allow: usize,
-    end: u8,
+    firsts: &'a [u16],
+    lasts: &'a [u16],
+    bound: u8,
     f: &'a [u8],
     starts: &'a [u16],
     ends: &'a [u16],
@@ -311,9 +408,214 @@ fn part<'a>(
     p: Drawn,
 ) -> Passed
     requires { ⌜ Sound (now f) (now starts) (now ends) (now tags) counts × (at ≤ length (now t)) × (772 ≤ length (now m)) ⌝ }
-    ensures { λ r. ⌜ PartAt (lookupIn (now (f .entry)) (now (starts .entry)) (now (ends .entry)) (now (tags .entry)) counts) (now (t .entry)) at allow end (nodesIn (now (m .entry)) p) (nodesIn (now (m .exit)) (r .drawn)) (r .answer) ⌝ }
+    requires { ⌜ Bound (now t) (now firsts) (now lasts) bound (allow + 1) (counts .tables) ⌝ }
+    ensures { λ r. ⌜ TemplateAt (lookupIn (now (f .entry)) (now (starts .entry)) (now (ends .entry)) (now (tags .entry)) counts)
+        (namesAt (now (t .entry)) (now (firsts .entry)) (now (lasts .entry)) 0 bound) (now (t .entry)) at allow
+        (nodesIn (now (m .entry)) p) (nodesIn (now (m .exit)) (r .drawn)) (r .answer) ⌝ }
 {
-    let v = expression(m, t, at, allow, f, starts, ends, tags, counts, p);
+    match read_name(t, at) {
+        Parsed::Bad(e) => Passed {
+            answer: Parsed::Bad(e),
+            drawn: p,
+        },
+        Parsed::Good(to) => {
+            if peek(t, to) != b'.' {
+                return Passed {
+                    answer: Parsed::Bad(to),
+                    drawn: p,
+                };
+            }
+            let v = body(
+                m,
+                t,
+                at,
+                allow,
+                to,
+                firsts,
+                lasts,
+                bound,
+                f,
+                starts,
+                ends,
+                tags,
+                counts,
+                p,
+            );
+            let k = v.answer;
+            let q = v.drawn;
+            match k {
+                Parsed::Bad(e) => Passed {
+                    answer: Parsed::Bad(e),
+                    drawn: p,
+                },
+                Parsed::Good(i) => filling(
+                    m,
+                    t,
+                    i + 1,
+                    allow,
+                    firsts,
+                    lasts,
+                    bound,
+                    f,
+                    starts,
+                    ends,
+                    tags,
+                    counts,
+                    q,
+                ),
+            }
+        }
+    }
+}
+
+// E of a template, behind its x, which stands from `at` up to `to`, and the point.
+fn body<'a>(
+    m: &mut [u8],
+    t: &'a [u8],
+    at: usize,
+    allow: usize,
+    to: usize,
+    firsts: &'a [u16],
+    lasts: &'a [u16],
+    bound: u8,
+    f: &'a [u8],
+    starts: &'a [u16],
+    ends: &'a [u16],
+    tags: &'a [u8],
+    counts: NameCounts,
+    p: Drawn,
+) -> Passed
+    requires { ⌜ Sound (now f) (now starts) (now ends) (now tags) counts × (at ≤ to) × (to < length (now t)) × (772 ≤ length (now m)) ⌝ }
+    requires { ⌜ Bound (now t) (now firsts) (now lasts) bound (allow + 1) (counts .tables) ⌝ }
+    ensures { λ r. ⌜ PartAt (lookupIn (now (f .entry)) (now (starts .entry)) (now (ends .entry)) (now (tags .entry)) counts)
+        (slice at to (now (t .entry)) ∷ namesAt (now (t .entry)) (now (firsts .entry)) (now (lasts .entry)) 0 bound) (now (t .entry)) (to + 1) allow 41
+        (nodesIn (now (m .entry)) p) (nodesIn (now (m .exit)) (r .drawn)) (r .answer) ⌝ }
+{
+    let s = put_first(firsts, bound, at);
+    let e = put_first(lasts, bound, to);
+    part(
+        m,
+        t,
+        to + 1,
+        allow,
+        b')',
+        &s,
+        &e,
+        bound + 1,
+        f,
+        starts,
+        ends,
+        tags,
+        counts,
+        p,
+    )
+}
+
+// F of a template, with its brackets, and the template's node.
+fn filling<'a>(
+    m: &mut [u8],
+    t: &'a [u8],
+    at: usize,
+    allow: usize,
+    firsts: &'a [u16],
+    lasts: &'a [u16],
+    bound: u8,
+    f: &'a [u8],
+    starts: &'a [u16],
+    ends: &'a [u16],
+    tags: &'a [u8],
+    counts: NameCounts,
+    p: Drawn,
+) -> Passed
+    requires { ⌜ Sound (now f) (now starts) (now ends) (now tags) counts × (at ≤ length (now t)) × (772 ≤ length (now m)) ⌝ }
+    requires { ⌜ Bound (now t) (now firsts) (now lasts) bound allow (counts .tables) ⌝ }
+    ensures { λ r. ⌜ FillingAt (lookupIn (now (f .entry)) (now (starts .entry)) (now (ends .entry)) (now (tags .entry)) counts)
+        (namesAt (now (t .entry)) (now (firsts .entry)) (now (lasts .entry)) 0 bound) (now (t .entry)) at allow
+        (nodesIn (now (m .entry)) p) (nodesIn (now (m .exit)) (r .drawn)) (r .answer) ⌝ }
+{
+    if peek(t, at) != b'(' {
+        return Passed {
+            answer: Parsed::Bad(at),
+            drawn: p,
+        };
+    }
+    let v = part(
+        m,
+        t,
+        at + 1,
+        allow,
+        b')',
+        firsts,
+        lasts,
+        bound,
+        f,
+        starts,
+        ends,
+        tags,
+        counts,
+        p,
+    );
+    let k = v.answer;
+    let q = v.drawn;
+    match k {
+        Parsed::Bad(e) => Passed {
+            answer: Parsed::Bad(e),
+            drawn: p,
+        },
+        Parsed::Good(n) => {
+            let cell = Cell {
+                kind: 8,
+                sort: 0,
+                op: 0,
+                number: 0,
+            };
+            let q2 = put(m, q, cell);
+            Passed {
+                answer: Parsed::Good(n + 1),
+                drawn: q2,
+            }
+        }
+    }
+}
+
+// An expression in brackets, up to the byte that ends it.
+fn part<'a>(
+    m: &mut [u8],
+    t: &'a [u8],
+    at: usize,
+    allow: usize,
+    end: u8,
+    firsts: &'a [u16],
+    lasts: &'a [u16],
+    bound: u8,
+    f: &'a [u8],
+    starts: &'a [u16],
+    ends: &'a [u16],
+    tags: &'a [u8],
+    counts: NameCounts,
+    p: Drawn,
+) -> Passed
+    requires { ⌜ Sound (now f) (now starts) (now ends) (now tags) counts × (at ≤ length (now t)) × (772 ≤ length (now m)) ⌝ }
+    requires { ⌜ Bound (now t) (now firsts) (now lasts) bound allow (counts .tables) ⌝ }
+    ensures { λ r. ⌜ PartAt (lookupIn (now (f .entry)) (now (starts .entry)) (now (ends .entry)) (now (tags .entry)) counts)
+        (namesAt (now (t .entry)) (now (firsts .entry)) (now (lasts .entry)) 0 bound) (now (t .entry)) at allow end
+        (nodesIn (now (m .entry)) p) (nodesIn (now (m .exit)) (r .drawn)) (r .answer) ⌝ }
+{
+    let v = expression(
+        m,
+        t,
+        at,
+        allow,
+        firsts,
+        lasts,
+        bound,
+        f,
+        starts,
+        ends,
+        tags,
+        counts,
+        p,
+    );
     let k = v.answer;
     let q = v.drawn;
     match k {
@@ -342,6 +644,9 @@ fn factor<'a>(
     t: &'a [u8],
     at: usize,
     allow: usize,
+    firsts: &'a [u16],
+    lasts: &'a [u16],
+    bound: u8,
     f: &'a [u8],
     starts: &'a [u16],
     ends: &'a [u16],
@@ -350,9 +655,26 @@ fn factor<'a>(
     p: Drawn,
 ) -> Passed
     requires { ⌜ Sound (now f) (now starts) (now ends) (now tags) counts × (at ≤ length (now t)) × (772 ≤ length (now m)) ⌝ }
-    ensures { λ r. ⌜ FactorAt (lookupIn (now (f .entry)) (now (starts .entry)) (now (ends .entry)) (now (tags .entry)) counts) (now (t .entry)) at allow (nodesIn (now (m .entry)) p) (nodesIn (now (m .exit)) (r .drawn)) (r .answer) ⌝ }
+    requires { ⌜ Bound (now t) (now firsts) (now lasts) bound allow (counts .tables) ⌝ }
+    ensures { λ r. ⌜ FactorAt (lookupIn (now (f .entry)) (now (starts .entry)) (now (ends .entry)) (now (tags .entry)) counts)
+        (namesAt (now (t .entry)) (now (firsts .entry)) (now (lasts .entry)) 0 bound) (now (t .entry)) at allow
+        (nodesIn (now (m .entry)) p) (nodesIn (now (m .exit)) (r .drawn)) (r .answer) ⌝ }
 {
-    let v = primary(m, t, at, allow, f, starts, ends, tags, counts, p);
+    let v = primary(
+        m,
+        t,
+        at,
+        allow,
+        firsts,
+        lasts,
+        bound,
+        f,
+        starts,
+        ends,
+        tags,
+        counts,
+        p,
+    );
     let k = v.answer;
     let q = v.drawn;
     match k {
@@ -370,6 +692,9 @@ fn more<'a>(
     t: &'a [u8],
     at: usize,
     allow: usize,
+    firsts: &'a [u16],
+    lasts: &'a [u16],
+    bound: u8,
     f: &'a [u8],
     starts: &'a [u16],
     ends: &'a [u16],
@@ -378,7 +703,10 @@ fn more<'a>(
     p: Drawn,
 ) -> Passed
     requires { ⌜ Sound (now f) (now starts) (now ends) (now tags) counts × (at ≤ length (now t)) × (772 ≤ length (now m)) ⌝ }
-    ensures { λ r. ⌜ MoreAt (lookupIn (now (f .entry)) (now (starts .entry)) (now (ends .entry)) (now (tags .entry)) counts) (now (t .entry)) at allow (nodesIn (now (m .entry)) p) (nodesIn (now (m .exit)) (r .drawn)) (r .answer) ⌝ }
+    requires { ⌜ Bound (now t) (now firsts) (now lasts) bound allow (counts .tables) ⌝ }
+    ensures { λ r. ⌜ MoreAt (lookupIn (now (f .entry)) (now (starts .entry)) (now (ends .entry)) (now (tags .entry)) counts)
+        (namesAt (now (t .entry)) (now (firsts .entry)) (now (lasts .entry)) 0 bound) (now (t .entry)) at allow
+        (nodesIn (now (m .entry)) p) (nodesIn (now (m .exit)) (r .drawn)) (r .answer) ⌝ }
 {
     let mut q = p;
     let mut i = at;
@@ -390,7 +718,21 @@ fn more<'a>(
                 drawn: q,
             };
         }
-        let v = factor(m, t, i + 1, allow, f, starts, ends, tags, counts, q);
+        let v = factor(
+            m,
+            t,
+            i + 1,
+            allow,
+            firsts,
+            lasts,
+            bound,
+            f,
+            starts,
+            ends,
+            tags,
+            counts,
+            q,
+        );
         let k = v.answer;
         let g = v.drawn;
         match k {
@@ -419,6 +761,9 @@ fn expression<'a>(
     t: &'a [u8],
     at: usize,
     allow: usize,
+    firsts: &'a [u16],
+    lasts: &'a [u16],
+    bound: u8,
     f: &'a [u8],
     starts: &'a [u16],
     ends: &'a [u16],
@@ -427,9 +772,26 @@ fn expression<'a>(
     p: Drawn,
 ) -> Passed
     requires { ⌜ Sound (now f) (now starts) (now ends) (now tags) counts × (at ≤ length (now t)) × (772 ≤ length (now m)) ⌝ }
-    ensures { λ r. ⌜ ExpressionAt (lookupIn (now (f .entry)) (now (starts .entry)) (now (ends .entry)) (now (tags .entry)) counts) (now (t .entry)) at allow (nodesIn (now (m .entry)) p) (nodesIn (now (m .exit)) (r .drawn)) (r .answer) ⌝ }
+    requires { ⌜ Bound (now t) (now firsts) (now lasts) bound allow (counts .tables) ⌝ }
+    ensures { λ r. ⌜ ExpressionAt (lookupIn (now (f .entry)) (now (starts .entry)) (now (ends .entry)) (now (tags .entry)) counts)
+        (namesAt (now (t .entry)) (now (firsts .entry)) (now (lasts .entry)) 0 bound) (now (t .entry)) at allow
+        (nodesIn (now (m .entry)) p) (nodesIn (now (m .exit)) (r .drawn)) (r .answer) ⌝ }
 {
-    let v = factor(m, t, at, allow, f, starts, ends, tags, counts, p);
+    let v = factor(
+        m,
+        t,
+        at,
+        allow,
+        firsts,
+        lasts,
+        bound,
+        f,
+        starts,
+        ends,
+        tags,
+        counts,
+        p,
+    );
     let k = v.answer;
     let q = v.drawn;
     match k {
@@ -437,8 +799,58 @@ fn expression<'a>(
             answer: Parsed::Bad(e),
             drawn: p,
         },
-        Parsed::Good(n) => more(m, t, n, allow, f, starts, ends, tags, counts, q),
+        Parsed::Good(n) => more(
+            m,
+            t,
+            n,
+            allow,
+            firsts,
+            lasts,
+            bound,
+            f,
+            starts,
+            ends,
+            tags,
+            counts,
+            q,
+        ),
     }
+}
+
+// Reads an expression where no name is bound.
+fn unbound<'a>(
+    m: &mut [u8],
+    t: &'a [u8],
+    at: usize,
+    allow: usize,
+    f: &'a [u8],
+    starts: &'a [u16],
+    ends: &'a [u16],
+    tags: &'a [u8],
+    counts: NameCounts,
+    p: Drawn,
+) -> Passed
+    requires { ⌜ Sound (now f) (now starts) (now ends) (now tags) counts × (at ≤ length (now t)) × (772 ≤ length (now m))
+        × (length (now t) ≤ 32768) × (allow ≤ 32) × (counts .tables ≤ 16) ⌝ }
+    ensures { λ r. ⌜ ExpressionAt (lookupIn (now (f .entry)) (now (starts .entry)) (now (ends .entry)) (now (tags .entry)) counts) [] (now (t .entry)) at allow
+        (nodesIn (now (m .entry)) p) (nodesIn (now (m .exit)) (r .drawn)) (r .answer) ⌝ }
+{
+    let none = [0u16; 1];
+    expression(
+        m,
+        t,
+        at,
+        allow,
+        &none,
+        &none,
+        0,
+        f,
+        starts,
+        ends,
+        tags,
+        counts,
+        p,
+    )
 }
 
 // Reads a whole text. A good answer is its length, and the nodes are those of its tree; a bad one is the place where it goes wrong.
@@ -450,7 +862,7 @@ pub fn read<'a>(
     tags: &'a [u8],
     counts: NameCounts,
 ) -> Made
-    requires { ⌜ Sound (now f) (now starts) (now ends) (now tags) counts × (length (now t) ≤ 32768) ⌝ }
+    requires { ⌜ Sound (now f) (now starts) (now ends) (now tags) counts × (length (now t) ≤ 32768) × (counts .tables ≤ 16) ⌝ }
     ensures { λ r. ⌜ Answer (lookupIn (now (f .entry)) (now (starts .entry)) (now (ends .entry)) (now (tags .entry)) counts) (now (t .entry)) r ⌝ }
 {
     let mut m = [0u8; 772];

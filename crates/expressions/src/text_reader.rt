@@ -1,10 +1,11 @@
 // The reader over the expression keeps the text and its place together. The borrow checker covers no function over such a struct, so each is proved by
-// hand. They are few, and leave the work to `expression` and `at_end`, which take the text and the place.
-use crate::expression;
+// hand. They are few, and leave the work to `unbound` and `at_end`, which take the text and the place.
+use crate::unbound;
 use names::NameCounts;
 use words::Drawn;
 use words::Passed;
 ghost use mathlib.Core.Path.{_≡_};
+ghost use mathlib.Core.List.{[]};
 ghost use Prim.Native.Nat.{_≤_};
 ghost use lib.Dec.{eqb};
 ghost use lib.ListN.{length};
@@ -37,10 +38,13 @@ fn expression_here<'a>(
     counts: NameCounts,
     p: Drawn,
 ) -> Passed
-    requires { ⌜ Sound (now f) (now starts) (now ends) (now tags) counts × (r .at ≤ length (now (r .text))) × (772 ≤ length (now m)) ⌝ }
-    ensures { λ v. ⌜ ExpressionAt (lookupIn (now (f .entry)) (now (starts .entry)) (now (ends .entry)) (now (tags .entry)) counts) (now (r .entry .text)) (r .entry .at) allow (nodesIn (now (m .entry)) p) (nodesIn (now (m .exit)) (v .drawn)) (v .answer) ⌝ }
+    requires { ⌜ Sound (now f) (now starts) (now ends) (now tags) counts × (r .at ≤ length (now (r .text))) × (772 ≤ length (now m))
+        × (length (now (r .text)) ≤ 32768) × (allow ≤ 32) × (counts .tables ≤ 16) ⌝ }
+    ensures { λ v. ⌜ ExpressionAt (lookupIn (now (f .entry)) (now (starts .entry)) (now (ends .entry)) (now (tags .entry)) counts)
+        [] (now (r .entry .text)) (r .entry .at) allow
+        (nodesIn (now (m .entry)) p) (nodesIn (now (m .exit)) (v .drawn)) (v .answer) ⌝ }
 {
-    expression(m, r.text, r.at, allow, f, starts, ends, tags, counts, p)
+    unbound(m, r.text, r.at, allow, f, starts, ends, tags, counts, p)
 }
 
 // Reads an expression at the text's beginning. Its parameters are plain, so whoever calls it needs no reader.
@@ -55,8 +59,10 @@ pub fn from_start<'a>(
     counts: NameCounts,
     p: Drawn,
 ) -> Passed
-    requires { ⌜ Sound (now f) (now starts) (now ends) (now tags) counts × (772 ≤ length (now m)) ⌝ }
-    ensures { λ v. ⌜ ExpressionAt (lookupIn (now (f .entry)) (now (starts .entry)) (now (ends .entry)) (now (tags .entry)) counts) (now (t .entry)) 0 allow (nodesIn (now (m .entry)) p) (nodesIn (now (m .exit)) (v .drawn)) (v .answer) ⌝ }
+    requires { ⌜ Sound (now f) (now starts) (now ends) (now tags) counts × (772 ≤ length (now m))
+        × (length (now t) ≤ 32768) × (allow ≤ 32) × (counts .tables ≤ 16) ⌝ }
+    ensures { λ v. ⌜ ExpressionAt (lookupIn (now (f .entry)) (now (starts .entry)) (now (ends .entry)) (now (tags .entry)) counts) [] (now (t .entry)) 0 allow
+        (nodesIn (now (m .entry)) p) (nodesIn (now (m .exit)) (v .drawn)) (v .answer) ⌝ }
 {
     expression_here(m, at_place(t, 0), allow, f, starts, ends, tags, counts, p)
 }

@@ -13,7 +13,7 @@ use lib.Seq.{slice, slice-cons, slice-empty, length-slice, getD-drop, getD-take,
 use lib.Dec.{leb}
 use borrow.Author.Tests.{eq-eqb, ne-eqb, le-leb, lt-leb, leb-true}
 use Rattle.algebra.proofs.Bool.{and-left, and-right}
-use Rattle.grammar.specs.Name.{isLetter, isNameByte, areNameBytes, isName, noSort, sortByte, sortWord}
+use Rattle.grammar.specs.Name.{isLetter, isNameByte, areNameBytes, isName, noLetter, letterByte, letterWord}
 use Rattle.grammar.specs.Lookup.{same}
 use Rattle.reader.specs.Text.{isDigit, digits, isNumber, spells}
 use Rattle.reader.specs.Line.{letterOf}
@@ -68,11 +68,11 @@ name-end l to = rw (slice-empty to l)
 -- ---- names
 
 -- a word of one letter is that letter; another has none
-pub sort-letter : (w : List ℕ) → noSort (sortWord w) ≡ noSort (sortByte (letterOf w))
-unfolding sortWord sortByte letterOf
-sort-letter [] = refl
-sort-letter (b ∷ []) = refl
-sort-letter (b ∷ c ∷ r) = refl
+pub lone-letter : (w : List ℕ) → noLetter (letterWord w) ≡ noLetter (letterByte (letterOf w))
+unfolding letterWord letterByte letterOf
+lone-letter [] = refl
+lone-letter (b ∷ []) = refl
+lone-letter (b ∷ c ∷ r) = refl
 
 pub empty-no-name : isName [] ≡ false
 unfolding isName isLetter
@@ -91,14 +91,14 @@ module _ (w : List ℕ) where
   unfolding isName
   name-long h = rw (lt-leb (length w) 24 h, and-false (isLetter (getD w 0 0) && areNameBytes w))
 
-  pub name-is : isLetter (getD w 0 0) ≡ true → areNameBytes w ≡ true → length w ≤ 24 → isName w ≡ noSort (sortByte (letterOf w))
+  pub name-is : isLetter (getD w 0 0) ≡ true → areNameBytes w ≡ true → length w ≤ 24 → isName w ≡ noLetter (letterByte (letterOf w))
   unfolding isName
-  name-is e g h = rw (e, g, le-leb (length w) 24 h) (sort-letter w)
+  name-is e g h = rw (e, g, le-leb (length w) 24 h) (lone-letter w)
 
   pub name-short : isName w ≡ true → length w ≤ 24
   unfolding isName
   name-short e = leb-true (length w) 24 (and-right (isLetter (getD w 0 0) && areNameBytes w) (leb (length w) 24)
-      (and-left (isLetter (getD w 0 0) && areNameBytes w && leb (length w) 24) (noSort (sortWord w)) e))
+      (and-left (isLetter (getD w 0 0) && areNameBytes w && leb (length w) 24) (noLetter (letterWord w)) e))
 
 -- a part that holds a name is short
 pub named-part : (f : List ℕ) (p : Part) → Within f p → isName (textOf f p) ≡ true → Named f p

@@ -5,7 +5,7 @@ ghost use mathlib.Core.Option.{none, some};
 ghost use Prim.Native.Nat.{_+_, _≤_};
 ghost use lib.ListN.{length};
 ghost use lib.Seq.{slice};
-ghost use Rattle.grammar.specs.Name.{isLetter, isNameByte, areNameBytes, isName, noSort, sortByte};
+ghost use Rattle.grammar.specs.Name.{isLetter, isNameByte, areNameBytes, isName, noLetter, letterByte};
 ghost use Rattle.grammar.specs.Lookup.{same};
 ghost use Rattle.reader.specs.Text.{before, isNumber, spells};
 ghost use Rattle.reader.specs.Line.{letterOf};
@@ -105,9 +105,9 @@ pub fn letter(f: &[u8], p: Part) -> u8
     f[from]
 }
 
-// Whether the byte of a word of one letter is none of s, o and a; 0 stands for another word.
-fn no_sort(b: u8) -> bool
-    ensures { λ r. ⌜ r ≡ noSort (sortByte b) ⌝ }
+// Whether the byte of a word of one letter is none of s, o, a and t; 0 stands for another word.
+fn no_letter(b: u8) -> bool
+    ensures { λ r. ⌜ r ≡ noLetter (letterByte b) ⌝ }
 {
     if b == 115 {
         return false;
@@ -116,6 +116,9 @@ fn no_sort(b: u8) -> bool
         return false;
     }
     if b == 97 {
+        return false;
+    }
+    if b == 116 {
         return false;
     }
     true
@@ -139,7 +142,7 @@ pub fn is_name(f: &[u8], p: Part) -> bool
     if !are_name_bytes(f, from, to) {
         return false;
     }
-    no_sort(letter(f, p))
+    no_letter(letter(f, p))
 }
 
 // Whether the part holds this word.

@@ -1,5 +1,6 @@
 use Rattle.expressions.proofs.Whole.{r-bad, r-rest, r-whole}
 use mathlib.Core.Path.{refl, sym, _∙_}
+use native.Mathlib.Omega.{arith}
 use borrow.Author.Needs.{needs}
 use borrow.Author.Tests.{eqb-true, eqb-false, not-true, not-false}
 use Rattle.expressions.proofs.read.Statement.{statement}
@@ -9,7 +10,9 @@ slice-aggregate-from-start : tie.Need-slice-aggregate-from-start
 slice-aggregate-from-start c = search needs
 
 from-start-requires : tie.Need-from-start-requires
-from-start-requires c κs = search needs
+from-start-requires c κs =
+    let pre = c .before .before .before .before .before .before .pre in
+    (pre .0, omega arith, pre .1, omega arith, pre .2)
 
 enum-known-k : tie.Need-enum-known-k
 enum-known-k c = search needs

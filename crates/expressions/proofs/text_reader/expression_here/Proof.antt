@@ -1,5 +1,8 @@
--- `expressions::text_reader::expression_here` meets its contract: a walk of its MIR, by hand. The reader is taken apart, and `expression` is called on the slice of cells, the text and the place, with all else as it was passed. All that the proof knows of `expression` is that it meets its contract.
--- The slice of cells goes to `expression` at its own lifetime, share and name: what `expression` says of its last list is what is said of it here at exit. Of the reader, its fields' owning is put between that of the slice and that of the rest. Nothing is had of the other parameters at exit, since the contract says nothing of them.
+-- `expressions::text_reader::expression_here` meets its contract: a walk of its MIR, by hand. The reader is taken apart, and `unbound` is called on
+-- the slice of cells, the text and the place, with all else as it was passed. All that the proof knows of `unbound` is that it meets its contract.
+-- The slice of cells goes to `unbound` at its own lifetime, share and name: what `unbound` says of its last list is what is said of it here at exit.
+-- Of the reader, its fields' owning is put between that of the slice and that of the rest. Nothing is had of the other parameters at exit, since the
+-- contract says nothing of them.
 -- Assumes nothing.
 use mathlib.Core.Path.{_≡_, refl}
 use Prim.Native.Nat.{ℕ, _<_, _≤_, _^_}
@@ -60,10 +63,10 @@ use Rattle.words.proofs.Drawn as P
 use Rattle.words.proofs.Drawn.Laws as P′
 use Rattle.words.proofs.Passed as R
 use Rattle.words.proofs.Passed.Laws as R′
-use Rattle.expressions.proofs.expression as expression
-use Rattle.expressions.proofs.expression.Symbol as expression-def
-use Rattle.expressions.proofs.expression.Symbol.{name as #expressions·expression}
-use Rattle.expressions.proofs.expression.Met as expression-thm
+use Rattle.expressions.proofs.unbound as unbound
+use Rattle.expressions.proofs.unbound.Symbol as unbound-def
+use Rattle.expressions.proofs.unbound.Symbol.{name as #expressions·unbound}
+use Rattle.expressions.proofs.unbound.Met as unbound-thm
 use Rattle.expressions.proofs.text_reader.expression_here.Key.{name as #expressions·text-reader·expression-here}
 use Rattle.expressions.proofs.text_reader.expression_here as here
 use Rattle.expressions.proofs.text_reader.expression_here.Statement as stated
@@ -100,8 +103,8 @@ stayed = (
 
 module _ {M : Type 1} (𝓤 : URA M) (H : Heap 𝓤) (A : Atoms 𝓤) (mem : Memory → SProp 𝓤) (run : Routine → Fun 𝓤) where
   -- the contract that the proof cites
-  abbrev Expression : Contract 𝓤
-  Expression = tripleOf 𝓤 H A expression.signature (expression.spec 𝓤 H A mem run)
+  abbrev Unbound : Contract 𝓤
+  Unbound = tripleOf 𝓤 H A unbound.signature (unbound.spec 𝓤 H A mem run)
 
 -- the slice x of cells, the reader d and the other arguments, with the machine values of the last two
 module _ {M : Type 1} (𝓤 : URA M) (H : Heap 𝓤) (A : Atoms 𝓤) (W : Given 𝓤 H A) (mem : Memory → SProp 𝓤) (run : Routine → Fun 𝓤) (κ₀ κ : Lft) (q₀ q : Share)
@@ -123,10 +126,10 @@ module _ {M : Type 1} (𝓤 : URA M) (H : Heap 𝓤) (A : Atoms 𝓤) (W : Given
   vals = (v x ∷ [], (mach ∷ [], (vint w64 n ∷ [], (v f ∷ [], (v ss ∷ [], (v es ∷ [], (v ts ∷ [], (wc ∷ [], (wp ∷ [], tt)))))))))
 
   -- what the callee is passed
-  abbrev b : Args expression.signature κs
+  abbrev b : Args unbound.signature κs
   b = (x, (d .text, (d .at, a .1 .1)))
 
-  abbrev passed : Vals expression.signature κs
+  abbrev passed : Vals unbound.signature κs
   passed = (v x ∷ [], (v (d .text) ∷ [], (vint w64 (d .at) ∷ [], vals .1 .1)))
 
   -- the types of what stands after the reader
@@ -136,10 +139,11 @@ module _ {M : Type 1} (𝓤 : URA M) (H : Heap 𝓤) (A : Atoms 𝓤) (W : Given
   -- what is said of the result and of the slice's last list
   abbrev Found : Passed → List ℕ → Type 0
   Found r zs =
-      ExpressionAt (lookupIn (now f) (now ss) (now es) (now ts) c) (now (d .text)) (d .at) n (nodesIn (now x) p) (nodesIn zs (r .drawn)) (r .answer)
+      ExpressionAt (lookupIn (now f) (now ss) (now es) (now ts) c) [] (now (d .text)) (d .at) n (nodesIn (now x) p) (nodesIn zs (r .drawn)) (r .answer)
 
   abbrev Ok : Type 0
-  Ok = Sound (now f) (now ss) (now es) (now ts) c × (d .at ≤ length (now (d .text))) × (772 ≤ length (now x))
+  Ok = Sound (now f) (now ss) (now es) (now ts) c × (d .at ≤ length (now (d .text))) × (772 ≤ length (now x)) × (length (now (d .text)) ≤ 32768) × (n ≤ 32)
+      × (c .tables ≤ 16)
 
   abbrev Post : Val → SProp 𝓤
   Post = walkOf 𝓤 H A here.ended stayed (here.clauses 𝓤 H A mem run) .post ((κs, (q₀, (q, tt)), tt, a, vals), tt)
@@ -154,11 +158,11 @@ module _ {M : Type 1} (𝓤 : URA M) (H : Heap 𝓤) (A : Atoms 𝓤) (W : Given
   abbrev vd : Values (D .parts)
   vd = (d .text, (d .at, tt))
 
-  abbrev to : Expression 𝓤 H A mem run .Ghost
+  abbrev to : Unbound 𝓤 H A mem run .Ghost
   to = ((κs, (q₀, (q, tt)), tt, b, passed), tt)
 
   -- what the parameters own is what the callee asks
-  apart : Ok → ent 𝓤 (onEntry 𝓤 H A here.signature κs (q₀, (q, tt)) a vals) (Expression 𝓤 H A mem run .pre to)
+  apart : Ok → ent 𝓤 (onEntry 𝓤 H A here.signature κs (q₀, (q, tt)) a vals) (Unbound 𝓤 H A mem run .pre to)
   apart ok =
       qed W ((‵ (flft κ₀ q₀) ⊛ ‵ (flft κ q) ⊛ ‵ ftrue) ∷ ‵ (owns (MutSlice (named 0) κ₀ u8 ∷ B κs ∷ others) a vals) ∷ []) ∵
       move ! (1 ∷ []) $ fsplit ! $ move ! (1 ∷ []) $ fsplit
@@ -177,7 +181,7 @@ module _ {M : Type 1} (𝓤 : URA M) (H : Heap 𝓤) (A : Atoms 𝓤) (W : Given
       move ! (1 ∷ []) $ frame ! $ nothing ! $ nothing ! $ fjoin ! $ nothing ! $ fjoin ! $ nothing ! $ fjoin ! $ nothing ! $ fjoin ! $ nothing ! $ fjoin !
       $ nothing ! $ fjoin ! $ nothing ! $ fjoin ! $ nothing ! $ fjoin ! $ move ! (2 ∷ 0 ∷ []) $ fjoin ! $ frame ! $ done !
 
-  module _ (C : Calls 𝓤 H) (Λ : Loops 𝓤 H) (fm : FmC 𝓤 H (W .laws) C) (known : Triple 𝓤 (C #expressions·expression) (Expression 𝓤 H A mem run)) where
+  module _ (C : Calls 𝓤 H) (Λ : Loops 𝓤 H) (fm : FmC 𝓤 H (W .laws) C) (known : Triple 𝓤 (C #expressions·unbound) (Unbound 𝓤 H A mem run)) where
     walk : Ok → Room u8 (length (x .now)) → Holds (hasTy (T′.mir (named 1)) mach) × WT mach → n < 2 ^ 64 → Is (ShrSlice (named 1) κ u8) f (v f ∷ [])
         → Is (ShrSlice (named 1) κ u16) ss (v ss ∷ []) → Is (ShrSlice (named 1) κ u16) es (v es ∷ []) → Is (ShrSlice (named 1) κ u8) ts (v ts ∷ [])
         → Holds (hasTy N′.mir wc) × WT wc → Holds (hasTy P′.mir wp) × WT wp → ent 𝓤 (onEntry 𝓤 H A here.signature κs (q₀, (q, tt)) a vals)
@@ -202,8 +206,8 @@ module _ {M : Type 1} (𝓤 : URA M) (H : Heap 𝓤) (A : Atoms 𝓤) (W : Given
         assigns ! (of-opd ! (load ! (from ! (fld ! refl (stop !))) (look-in ! 22 (sub ! 0 refl (whole !))))) (from ! (stop !)) (init ! 2 refl (tt, wt .1 .0)) $
         assigns ! (of-opd ! (load ! (from ! (fld ! refl (stop !))) (look-in ! 22 (sub ! 1 refl (whole !))))) (from ! (stop !))
         (init ! 0 refl (tt, wt .1 .1 .0)) $
-        move ! (28 ∷ []) $ use1 W (raw (Expression 𝓤 H A mem run .pre to)) (apart ok) $
-        calls-at ! fm (Expression 𝓤 H A mem run) known to
+        move ! (28 ∷ []) $ use1 W (raw (Unbound 𝓤 H A mem run .pre to)) (apart ok) $
+        calls-at ! fm (Unbound 𝓤 H A mem run) known to
         (and-then ! (load ! (from ! (stop !)) (look ! 5 refl))
         (and-then ! (load ! (from ! (stop !)) (look ! 3 refl))
         (and-then ! (load ! (from ! (stop !)) (look ! 1 refl))
@@ -213,9 +217,9 @@ module _ {M : Type 1} (𝓤 : URA M) (H : Heap 𝓤) (A : Atoms 𝓤) (W : Given
         (and-then ! (load ! (from ! (stop !)) (look ! 13 refl))
         (and-then ! (load ! (from ! (stop !)) (look ! 11 refl)) (and-then ! (load ! (from ! (stop !)) (look ! 9 refl)) (no-more !))))))))))) (λ u.
         use1 W (later (some (λ (r : Passed). ((‵ (flft κ₀ q₀) ⊛ ‵ (flft κ q) ⊛ ‵ ftrue) ⊛ ‵ (R.the-row .own r (u ∷ [])))
-        ⊛ raw (ensured 𝓤 H A expression.ended (expression.clauses 𝓤 H A mem run) κs b tt r)))) (id⊢ 𝓤 _) $ await ! tt $ pick ! (λ r.
-        -- what `expression` ensures, at some last list
-        split ! $ move ! (1 ∷ []) $ use1 W (some (λ (zs : Lasts expression.ended κs b). ‵ (lasts expression.ended κs b zs) ⊛ raw (fact 𝓤 (Found r (zs .0)))))
+        ⊛ raw (ensured 𝓤 H A unbound.ended (unbound.clauses 𝓤 H A mem run) κs b tt r)))) (id⊢ 𝓤 _) $ await ! tt $ pick ! (λ r.
+        -- what `unbound` ensures, at some last list
+        split ! $ move ! (1 ∷ []) $ use1 W (some (λ (zs : Lasts unbound.ended κs b). ‵ (lasts unbound.ended κs b zs) ⊛ raw (fact 𝓤 (Found r (zs .0)))))
         (id⊢ 𝓤 _) $ pick ! (λ zs. split ! $ move ! (1 ∷ []) $ heard ! (Found r (zs .0)) (λ e. fsplit ! $ fsplit ! $ move ! (1 ∷ []) $ feqL ! (λ l.
         -- [the last list; …; the tokens and the result; _13; …]
         move ! (2 ∷ []) $ split ! $ move ! (1 ∷ []) $
@@ -230,7 +234,7 @@ module _ {M : Type 1} (𝓤 : URA M) (H : Heap 𝓤) (A : Atoms 𝓤) (W : Given
         move ! (6 ∷ 7 ∷ []) $ free1 ! $ move ! (4 ∷ 5 ∷ []) $ free1 ! $ free0 ! $ keep ! (0 ∷ 1 ∷ 2 ∷ []) $ by ! (exits r u (zs .0) e l)))))))))))))))))))))
 
 module _ {M : Type 1} (𝓤 : URA M) (H : Heap 𝓤) (A : Atoms 𝓤) (W : Given 𝓤 H A) (mem : Memory → SProp 𝓤) (run : Routine → Fun 𝓤) where
-  here-walks : (C : Calls 𝓤 H) (Λ : Loops 𝓤 H) → FmC 𝓤 H (W .laws) C → Triple 𝓤 (C #expressions·expression) (Expression 𝓤 H A mem run)
+  here-walks : (C : Calls 𝓤 H) (Λ : Loops 𝓤 H) → FmC 𝓤 H (W .laws) C → Triple 𝓤 (C #expressions·unbound) (Unbound 𝓤 H A mem run)
       → Walks 𝓤 H A here.ended stayed (WpFn 𝓤 H C Λ code.function) (here.clauses 𝓤 H A mem run)
   here-walks C Λ fm known = walked 𝓤 H A here.ended stayed (here.clauses 𝓤 H A mem run) (WpFn 𝓤 H C Λ code.function) (λ κs. (
     slice-vals,
@@ -288,7 +292,7 @@ module _ {M : Type 1} (𝓤 : URA M) (H : Heap 𝓤) (A : Atoms 𝓤) (W : Given
   )
 
 here-meets : {M : Type 1} (𝓤 : URA M) (H : Heap 𝓤) (A : Atoms 𝓤) (W : Given 𝓤 H A) (mem : Memory → SProp 𝓤) (run : Routine → Fun 𝓤) (𝓣 : Tables 𝓤 H)
-    → Triple 𝓤 (𝓣 .C #expressions·expression) (Expression 𝓤 H A mem run)
+    → Triple 𝓤 (𝓣 .C #expressions·unbound) (Unbound 𝓤 H A mem run)
     → Meets 𝓤 H A here.signature (WpFn 𝓤 H (𝓣 .C) (𝓣 .Λ) code.function) (here.spec 𝓤 H A mem run)
 here-meets 𝓤 H A W mem run 𝓣 known = walk-meets 𝓤 H A here.ended stayed W (gone 𝓤 H A W mem run) (here.clauses 𝓤 H A mem run)
     (WpFn 𝓤 H (𝓣 .C) (𝓣 .Λ) code.function) (WpFn-mono 𝓤 H (W .laws) 𝓣 code.function)
@@ -300,5 +304,5 @@ expression-here-spec 𝓤 H 𝓜 𝓖 𝓡 =
     entered 𝓤 H (tripleOf 𝓤 H (𝓖 .A) here.signature (here.spec 𝓤 H (𝓖 .A) (𝓜 .mem) (𝓡 .run)))
     (tables 𝓤 H 𝓜 𝓡 code.env .C) (tables 𝓤 H 𝓜 𝓡 code.env .Λ) #expressions·text-reader·expression-here code.function (code.unfolded 𝓤 H 𝓜 𝓡)
     (here-meets 𝓤 H (𝓖 .A) (givenOf 𝓤 H 𝓜 𝓖) (𝓜 .mem) (𝓡 .run) (tablesOf 𝓤 H 𝓜 (tables 𝓤 H 𝓜 𝓡 code.env))
-    (cited 𝓤 H (Expression 𝓤 H (𝓖 .A) (𝓜 .mem) (𝓡 .run)) 𝓜 𝓡 code.env #expressions·expression expression-def.routine code.calls-expressions·expression
-    (expression-thm.met 𝓤 H 𝓜 𝓖 𝓡)))
+    (cited 𝓤 H (Unbound 𝓤 H (𝓖 .A) (𝓜 .mem) (𝓡 .run)) 𝓜 𝓡 code.env #expressions·unbound unbound-def.routine code.calls-expressions·unbound
+    (unbound-thm.met 𝓤 H 𝓜 𝓖 𝓡)))

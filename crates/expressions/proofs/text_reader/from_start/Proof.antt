@@ -149,10 +149,10 @@ module _ {M : Type 1} (𝓤 : URA M) (H : Heap 𝓤) (A : Atoms 𝓤) (W : Given
 
   -- what is said of the result and of the slice's last list
   abbrev Found : Passed → List ℕ → Type 0
-  Found r zs = ExpressionAt (lookupIn (now f) (now ss) (now es) (now ts) c) (now t) 0 n (nodesIn (now x) p) (nodesIn zs (r .drawn)) (r .answer)
+  Found r zs = ExpressionAt (lookupIn (now f) (now ss) (now es) (now ts) c) [] (now t) 0 n (nodesIn (now x) p) (nodesIn zs (r .drawn)) (r .answer)
 
   abbrev Ok : Type 0
-  Ok = Sound (now f) (now ss) (now es) (now ts) c × (772 ≤ length (now x))
+  Ok = Sound (now f) (now ss) (now es) (now ts) c × (772 ≤ length (now x)) × (length (now t) ≤ 32768) × (n ≤ 32) × (c .tables ≤ 16)
 
   abbrev Post : Val → SProp 𝓤
   Post = walkOf 𝓤 H A from-start.ended stayed (from-start.clauses 𝓤 H A mem run) .post ((κs, (q₀, (q, tt)), tt, a, vals), tt)
@@ -188,7 +188,8 @@ module _ {M : Type 1} (𝓤 : URA M) (H : Heap 𝓤) (A : Atoms 𝓤) (W : Given
       qed W (‵ (B κs .own d (u ∷ [])) ∷ (‵ (flft κ q) ⊛ ‵ ftrue) ∷ (‵ (flft κ₀ q₀) ⊛ ‵ Cells ⊛ ‵ Own) ∷ []) ∵
       move ! (2 ∷ []) $ split ! $ move ! (1 ∷ []) $ split ! $
       -- [what the slice owns; what the others own; its token; what the reader owns; the other token]
-      move ! (3 ∷ 1 ∷ []) $ fjoin ! $ move ! (1 ∷ 0 ∷ []) $ fjoin ! $ move ! (1 ∷ 2 ∷ []) $ join ! $ says ! (ok .0, within _, ok .1) $ frame ! $ done !
+      move ! (3 ∷ 1 ∷ []) $ fjoin ! $ move ! (1 ∷ 0 ∷ []) $ fjoin ! $ move ! (1 ∷ 2 ∷ []) $ join ! $ says ! (ok .0, within _, ok .1, ok .2, ok .3, ok .4)
+      $ frame ! $ done !
 
   exits : (r : Passed) (u : Val) (zs : List ℕ) → Found r zs → length zs ≡ length (x .now)
       → ent 𝓤 (⋆ 𝓤 H A (‵ (R.the-row .own r (u ∷ [])) ∷ (‵ (flft κ₀ q₀) ⊛ ‵ (flft κ q) ⊛ ‵ ftrue) ∷ ‵ (finally u8 (x .name) zs) ∷ [])) (Post u)

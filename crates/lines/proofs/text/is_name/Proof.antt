@@ -51,8 +51,8 @@ returns-4 c =
 letter-requires : tie.Need-letter-requires
 letter-requires c κs = search needs
 
-no-sort-requires : tie.Need-no-sort-requires
-no-sort-requires c κs = search needs
+no-letter-requires : tie.Need-no-letter-requires
+no-letter-requires c κs = search needs
 
 returns-5 : tie.Need-returns-5
 returns-5 c =
@@ -66,7 +66,7 @@ returns-5 c =
     let h : length w ≤ 24 = omega (arith, c7 .if2 .left, length-slice (a .p .from) (a .p .to) (a .f .now) (start .pre .fits)) in
     let n = name-is w (ap isLetter g ∙ sym (c3 .before .before .is-letter .ensures) ∙ not-false _ (c3 .before .if3 .left))
     (sym (c3 .are-name-bytes .ensures) ∙ not-false _ (c .before .before .if4 .left)) h in
-    c .no-sort .ensures ∙ rw (c .before .letter .ensures) (sym n)
+    c .no-letter .ensures ∙ rw (c .before .letter .ensures) (sym n)
 
 pub is-name-spec : {M : Type 1} → statement M
 is-name-spec =
@@ -81,5 +81,5 @@ is-name-spec =
     are-name-bytes-requires
     returns-4
     letter-requires
-    no-sort-requires
+    no-letter-requires
     returns-5)
