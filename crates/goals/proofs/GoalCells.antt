@@ -1,10 +1,12 @@
--- The cells of a good goal's nodes are in the ranges that a run asks for.
+-- The cells of a good goal's nodes are in the ranges that a run asks for, and so are the tables that its tree uses.
 use mathlib.Core.Path.{_∙_}
 use mathlib.Core.List.{List}
 use Prim.Native.Nat.{ℕ, _<_}
 use native.Mathlib.Omega.{arith}
+use Rattle.algebra.specs.Algebra.{Uses}
 use Rattle.algebra.specs.Stored.{storedSort}
 use Rattle.grammar.specs.Names.{Kind, table, member, predicate}
+use Rattle.grammar.specs.Tree.{treeOf}
 use Rattle.nodes.specs.Cells.{cellIn}
 use Rattle.words.specs.Cells.{NumberOf, CellWithin}
 use Rattle.nodes.specs.declared.Cell.{Cell}
@@ -26,10 +28,6 @@ module _ (f starts ends tags : List ℕ) (c : NameCounts) (few : Few c) (d : Dec
 
   within-fits : (x : Cell) → CellWithin (lookup d) x → CellFits c x
   within-fits x h = record {
-    table = λ z.
-        let l = number-lt table (x .number) (h .of-table z) in
-        let k = few .tables in
-        (l, omega arith);
     member = λ z. let y = h .of-member z in (y .0, y .1, y .2, number-lt (member (storedSort (x .sort))) (x .number) (y .3));
     predicate = λ z.
         let y = h .of-predicate z in
@@ -40,3 +38,6 @@ module _ (f starts ends tags : List ℕ) (c : NameCounts) (few : Few c) (d : Dec
 module _ (f w : List ℕ) (st : State) (d : Declared) (limit : ℕ) (t : List ℕ) (p : Nodes) (G : GoalGood d limit t p) where
   pub goal-cells : Stands f w st d → (j : ℕ) → j < p .used → CellFits (st .counts) (cellIn (p .cells) j)
   goal-cells S j l = within-fits f (st .starts) (st .ends) (st .tags) (st .counts) (S .few) d (S .names) _ (G .within j l)
+
+  pub goal-tables : Stands f w st d → (i : ℕ) → Uses (treeOf (lookup d) (G .expression)) i → i < st .counts .tables
+  goal-tables S i u = number-lt f (st .starts) (st .ends) (st .tags) (st .counts) (S .few) d (S .names) table i (G .tables i u)

@@ -10,7 +10,7 @@ use lib.Seq.{slice}
 use lib.Dec.{ltb}
 use Rattle.algebra.proofs.Bool.{or-right}
 use borrow.Author.Tests.{lt-ltb, le-ltb}
-use Rattle.algebra.specs.Algebra.{Tree, operators, held}
+use Rattle.algebra.specs.Algebra.{Tree, operators, held, bindings}
 use Rattle.algebra.specs.Policy.{Rule, Scope}
 use Rattle.algebra.specs.Nodes.{Encodes}
 use Rattle.grammar.specs.Expression.{Exp}
@@ -18,6 +18,7 @@ use Rattle.grammar.specs.Machine.{Reading, read, wrong, reading}
 use Rattle.grammar.specs.Names.{Kind}
 use Rattle.names.specs.Entries.{lookupIn}
 use Rattle.grammar.specs.Tree.{treeOf}
+use Rattle.grammar.proofs.Used.{used-table}
 use Rattle.nodes.specs.Cells.{label, HasTree}
 use Rattle.nodes.proofs.Held.{Held}
 use Rattle.nodes.specs.declared.Counted.{Counted}
@@ -33,7 +34,7 @@ use Rattle.reader.specs.Line.{expressionLine}
 use Rattle.reader.specs.Declarations.{Declared, groupOf}
 use Rattle.reader.specs.Expression.{lookup, isDeclared}
 use Rattle.reader.specs.Rows.{row, placeless, good, refuse, first, rows, outOfOrder, withoutRule, badCounts, tooMany, declaredAlready, notDeclared, grantsAway}
-use Rattle.reader.specs.Rows.{twoSorts, notOfGrammar, nameNotDeclared, tooLarge, expressionRows}
+use Rattle.reader.specs.Rows.{twoSorts, notOfGrammar, nameNotDeclared, tooLarge, tooDeep, expressionRows}
 use Rattle.reader.specs.File.{goalOf, add}
 use Rattle.state.specs.Standing.{NamesStand, Stands}
 use Rattle.state.specs.Judged.{lateOf, badCountsOf}
@@ -162,11 +163,13 @@ module _ (f starts ends tags : List ℕ) (c : NameCounts) (d : Declared) (ns : N
       module _ (p7 : limit ≤ 4096) (m : Made) (told : Answer (lookupIn f starts ends tags c) t m) where
         -- the rows of the expression, where it reads so
         in-rows : (v : Reading) → reading t ≡ v
-            → first (rows d (expressionLine limit t)) ≡ first (row 12 (notOfGrammar v) ∷ row 13 (nameNotDeclared d v) ∷ row 14 (placeless (tooLarge d v)) ∷ [])
+            → first (rows d (expressionLine limit t))
+            ≡ first (row 12 (notOfGrammar v) ∷ row 13 (nameNotDeclared d v) ∷ row 14 (placeless (tooLarge d v)) ∷ row 16 (placeless (tooDeep d v)) ∷ [])
         unfolding tooMany declaredAlready notDeclared grantsAway twoSorts expressionRows
         in-rows v e =
             past-11 d (expressionLine limit t) row-4 row-8 (le-ltb 4096 limit p7) refl refl refl refl
-            ∙ ap (λ (x : Reading). first (row 12 (notOfGrammar x) ∷ row 13 (nameNotDeclared d x) ∷ row 14 (placeless (tooLarge d x)) ∷ [])) e
+            ∙ ap (λ (x : Reading). first
+            (row 12 (notOfGrammar x) ∷ row 13 (nameNotDeclared d x) ∷ row 14 (placeless (tooLarge d x)) ∷ row 16 (placeless (tooDeep d x)) ∷ [])) e
 
         said : Told (lookup d) t (reading t) m
         said = subst (λ (n : Kind → List ℕ → Option ℕ). Told n t (reading t) m) (fun-ext (λ k. fun-ext (λ n. ns .looks k n))) told
@@ -184,7 +187,8 @@ module _ (f starts ends tags : List ℕ) (c : NameCounts) (d : Declared) (ns : N
           tree = treeOf (lookup d) (whole .expression)
 
           past-12 : first (rows d (expressionLine limit t))
-              ≡ first (row 13 (nameNotDeclared d (read (whole .expression))) ∷ row 14 (placeless (tooLarge d (read (whole .expression)))) ∷ [])
+              ≡ first (row 13 (nameNotDeclared d (read (whole .expression))) ∷ row 14 (placeless (tooLarge d (read (whole .expression))))
+              ∷ row 16 (placeless (tooDeep d (read (whole .expression)))) ∷ [])
           unfolding notOfGrammar
           past-12 = in-rows (read (whole .expression)) (whole .is) ∙ first-passed 12 _ _ refl
 
@@ -197,7 +201,8 @@ module _ (f starts ends tags : List ℕ) (c : NameCounts) (d : Declared) (ns : N
           goal-13 {i} h p = judged-no d limit t 13 i (omega arith) (past-12 ∙ first-met 13 i _ _ (missing-at ∙ ap placeOf h)) _ refl refl refl
 
           module _ (h : m .nodes .missing ≡ Nowhere) where
-            past-13 : first (rows d (expressionLine limit t)) ≡ first (row 14 (placeless (tooLarge d (read (whole .expression)))) ∷ [])
+            past-13 : first (rows d (expressionLine limit t))
+                ≡ first (row 14 (placeless (tooLarge d (read (whole .expression)))) ∷ row 16 (placeless (tooDeep d (read (whole .expression)))) ∷ [])
             past-13 = past-12 ∙ first-passed 13 _ _ (missing-at ∙ ap placeOf h)
 
             too-large : tooLarge d (read (whole .expression)) ≡ true → (p : Nodes)
@@ -219,27 +224,44 @@ module _ (f starts ends tags : List ℕ) (c : NameCounts) (d : Declared) (ns : N
               unfolding tooLarge
               goal-held x = too-large (rw (lt-ltb 14 (held tree) (omega (arith, is-held tree 0 coded .1))))
 
-              pub goal-good : r .sets ≤ 14 → GoalJudged d limit t (record { number = 0; place = 0; limit = limit; nodes = m .nodes })
-              unfolding tooLarge first
-              goal-good x = record {
-                verdict = past-13 ∙ first-passed 14 (placeless (tooLarge d (read (whole .expression)))) []
-                    (placeless-false (rw (le-ltb 14 (held tree) few-held, le-ltb 64 (operators tree) few-operators)));
-                limit-is = refl;
-                good = λ z. record {
-                  expression = whole .expression;
-                  reads = whole .is;
-                  tree = coded;
-                  long = whole .yields .long;
-                  few-used = whole .yields .few;
-                  within = whole .yields .within h;
-                  limited = p7;
-                  few-held = few-held;
-                  few-operators = few-operators;
-                };
-              }
-                where
-                  few-held : held tree ≤ 14
-                  few-held = omega (arith, is-held tree 0 coded .1)
+              module _ (few-sets : r .sets ≤ 14) where
+                few-held : held tree ≤ 14
+                few-held = omega (arith, is-held tree 0 coded .1)
+
+                past-14 : first (rows d (expressionLine limit t)) ≡ first (row 16 (placeless (tooDeep d (read (whole .expression)))) ∷ [])
+                unfolding tooLarge
+                past-14 = past-13 ∙ first-passed 14 (placeless (tooLarge d (read (whole .expression)))) _
+                    (placeless-false (rw (le-ltb 14 (held tree) few-held, le-ltb 64 (operators tree) few-operators)))
+
+                pub goal-deep : 4 < r .bindings → (p : Nodes) → GoalJudged d limit t (record { number = 16; place = 0; limit = limit; nodes = p })
+                unfolding tooDeep
+                goal-deep x p =
+                    judged-no d limit t 16 0 (omega arith) (past-14 ∙ first-met 16 0 _ _ (placeless-true
+                    (lt-ltb 4 (bindings tree) (omega (arith, is-held tree 0 coded .2))))) _ refl refl refl
+
+                pub goal-good : r .bindings ≤ 4 → GoalJudged d limit t (record { number = 0; place = 0; limit = limit; nodes = m .nodes })
+                unfolding tooDeep first
+                goal-good x = record {
+                  verdict = past-14
+                      ∙ first-passed 16 (placeless (tooDeep d (read (whole .expression)))) [] (placeless-false (le-ltb 4 (bindings tree) few-bindings));
+                  limit-is = refl;
+                  good = λ z. record {
+                    expression = whole .expression;
+                    reads = whole .is;
+                    tree = coded;
+                    long = whole .yields .long;
+                    few-used = whole .yields .few;
+                    within = whole .yields .within h;
+                    limited = p7;
+                    few-held = few-held;
+                    few-operators = few-operators;
+                    few-bindings = few-bindings;
+                    tables = used-table (lookup d) (whole .expression) (sym (whole .yields .missing-is) ∙ ap placeOf h);
+                  };
+                }
+                  where
+                    few-bindings : bindings tree ≤ 4
+                    few-bindings = omega (arith, is-held tree 0 coded .2)
 
 -- ---- the verdict taken apart
 

@@ -3,15 +3,16 @@ use mathlib.Core.Path.{_≡_}
 use mathlib.Core.List.{List}
 use Prim.Native.Nat.{ℕ, _≤_, _<_}
 use lib.ListN.{length}
-use Rattle.algebra.specs.Algebra.{operators, held}
+use Rattle.algebra.specs.Algebra.{Uses, operators, held, bindings}
 use Rattle.algebra.specs.Nodes.{Encodes}
 use Rattle.algebra.specs.Stored.{storedSort}
 use Rattle.grammar.specs.Expression.{Exp}
 use Rattle.grammar.specs.Machine.{read, reading}
+use Rattle.grammar.specs.Names.{table}
 use Rattle.grammar.specs.Tree.{treeOf}
 use Rattle.names.specs.Entries.{memberCount}
 use Rattle.nodes.specs.Cells.{cellIn, label}
-use Rattle.words.specs.Cells.{CellWithin}
+use Rattle.words.specs.Cells.{NumberOf, CellWithin}
 use Rattle.nodes.specs.declared.Cell.{Cell}
 use Rattle.names.specs.declared.NameCounts.{NameCounts}
 use Rattle.words.specs.declared.Nodes.{Nodes}
@@ -34,10 +35,11 @@ pub record GoalGood (d : Declared) (limit : ℕ) (t : List ℕ) (p : Nodes) : Ty
   pub limited : limit ≤ 4096
   pub few-held : held (treeOf (lookup d) expression) ≤ 14
   pub few-operators : operators (treeOf (lookup d) expression) ≤ 64
+  pub few-bindings : bindings (treeOf (lookup d) expression) ≤ 4
+  pub tables : (i : ℕ) → Uses (treeOf (lookup d) expression) i → NumberOf (lookup d) table i
 
 -- a cell whose numbers are in their ranges, for so many names
 pub record CellFits (c : NameCounts) (x : Cell) : Type 0 where
-  pub table : x .kind ≡ 0 → (x .number < c .tables) × (x .number < 16)
   pub member : x .kind ≡ 5 → (1 ≤ x .op) × (x .op ≤ 5) × (x .sort ≤ 2) × (x .number < memberCount c (storedSort (x .sort)))
   pub predicate : x .kind ≡ 6 → (x .sort ≤ 2) × (x .number < 16)
 

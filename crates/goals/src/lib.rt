@@ -54,7 +54,7 @@ pub fn judge_expression<'a>(
     limit: u16,
     t: Part,
 ) -> Goal
-    requires { ⌜ Sound (now f) (now starts) (now ends) (now tags) n × Within (now f) t × (length (now f) ≤ 32768) ⌝ }
+    requires { ⌜ Sound (now f) (now starts) (now ends) (now tags) n × Within (now f) t × (length (now f) ≤ 32768) × (n .tables ≤ 16) ⌝ }
     ensures { λ r. ⌜ ((d : Declared) → NamesStand (now (f .entry)) (now (starts .entry)) (now (ends .entry)) (now (tags .entry)) n d → d .group ≡ group → GoalJudged d limit (textOf (now (f .entry)) t) r) ⌝ }
 {
     if late(group, 7) {
@@ -100,6 +100,14 @@ pub fn judge_expression<'a>(
                 if 14 < held.sets {
                     return Goal {
                         number: 14,
+                        place: 0,
+                        limit: limit,
+                        nodes: nodes,
+                    };
+                }
+                if 4 < held.bindings {
+                    return Goal {
+                        number: 16,
                         place: 0,
                         limit: limit,
                         nodes: nodes,

@@ -1,5 +1,5 @@
 use mathlib.Core.Path.{sym, _∙_}
-use Rattle.goals.proofs.Goals.{told-part, has-tree, goal-4, goal-8, goal-7, goal-12, goal-13, goal-held, goal-operators, goal-good}
+use Rattle.goals.proofs.Goals.{told-part, has-tree, goal-4, goal-8, goal-7, goal-12, goal-13, goal-held, goal-operators, goal-deep, goal-good}
 use native.Mathlib.Omega.{arith}
 use borrow.Author.Needs.{needs}
 use Rattle.goals.proofs.judge_expression.Statement.{statement}
@@ -82,22 +82,22 @@ sets-held-requires c κs =
     has-tree _ _ _ (c10 .read .ensures) (c7 .answer2 .given .1) (omega (arith, c3 .if4 .left))
 
 -- what is accepted stands before what is refused: where a bound is raised, this is the fact that fails
-returns-8 : tie.Need-returns-8
-returns-8 c d ns g =
-    let c2 = c .before .before in
-    let c6 = c2 .before .before .before .before in
-    let c7 = c6 .before in
-    let c10 = c7 .before .before .before in
-    let c13 = c10 .before .before .before in
-    let c15 = c13 .before .before in
-    let c16 = c15 .before in
-    let c17 = c16 .before in
+returns-9 : tie.Need-returns-9
+returns-9 c d ns g =
+    let c4 = c .before .before .before .before in
+    let c8 = c4 .before .before .before .before in
+    let c9 = c8 .before in
+    let c12 = c9 .before .before .before in
+    let c15 = c12 .before .before .before in
+    let c17 = c15 .before .before in
     let c18 = c17 .before in
     let c19 = c18 .before in
-    let start = c19 .before .before .before .before .before in
-    goal-good _ _ _ _ _ d ns _ g _ _ (sym (c19 .late .ensures) ∙ c18 .if1 .left) (sym (c17 .bad-counts .ensures) ∙ c16 .if2 .left)
-    (omega (arith, c15 .if3 .left)) _ (told-part _ _ _ _ (start .pre .1) (c13 .read .ensures)) (c10 .answer2 .given .1) (c7 .enum-told .given .1)
-    (omega (arith, c6 .if4 .left)) (c2 .sets-held .result) (c2 .sets-held .ensures) (omega (arith, c .if5 .left))
+    let c20 = c19 .before in
+    let c21 = c20 .before in
+    let start = c21 .before .before .before .before .before in
+    goal-good _ _ _ _ _ d ns _ g _ _ (sym (c21 .late .ensures) ∙ c20 .if1 .left) (sym (c19 .bad-counts .ensures) ∙ c18 .if2 .left)
+    (omega (arith, c17 .if3 .left)) _ (told-part _ _ _ _ (start .pre .1) (c15 .read .ensures)) (c12 .answer2 .given .1) (c9 .enum-told .given .1)
+    (omega (arith, c8 .if4 .left)) (c4 .sets-held .result) (c4 .sets-held .ensures) (omega (arith, c .before .before .if5 .left)) (omega (arith, c .if6 .left))
 
 returns-5 : tie.Need-returns-5
 returns-5 c d ns g =
@@ -118,6 +118,24 @@ returns-5 c d ns g =
 
 returns-6 : tie.Need-returns-6
 returns-6 c d ns g =
+    let c4 = c .before .before .before .before in
+    let c8 = c4 .before .before .before .before in
+    let c9 = c8 .before in
+    let c12 = c9 .before .before .before in
+    let c15 = c12 .before .before .before in
+    let c17 = c15 .before .before in
+    let c18 = c17 .before in
+    let c19 = c18 .before in
+    let c20 = c19 .before in
+    let c21 = c20 .before in
+    let start = c21 .before .before .before .before .before in
+    goal-deep _ _ _ _ _ d ns _ g _ _ (sym (c21 .late .ensures) ∙ c20 .if1 .left) (sym (c19 .bad-counts .ensures) ∙ c18 .if2 .left)
+    (omega (arith, c17 .if3 .left)) _ (told-part _ _ _ _ (start .pre .1) (c15 .read .ensures)) (c12 .answer2 .given .1) (c9 .enum-told .given .1)
+    (omega (arith, c8 .if4 .left)) (c4 .sets-held .result) (c4 .sets-held .ensures) (omega (arith, c .before .before .if5 .left))
+    (omega (arith, c .if6 .taken)) _
+
+returns-7 : tie.Need-returns-7
+returns-7 c d ns g =
     let c1 = c .before in
     let c4 = c1 .before .before .before in
     let c6 = c4 .before .before in
@@ -129,8 +147,8 @@ returns-6 c d ns g =
     goal-12 _ _ _ _ _ d ns _ g _ _ (sym (c10 .late .ensures) ∙ c9 .if1 .left) (sym (c8 .bad-counts .ensures) ∙ c7 .if2 .left)
     (omega (arith, c6 .if3 .left)) _ (told-part _ _ _ _ (start .pre .1) (c4 .read .ensures)) (c1 .answer .given .1) _
 
-returns-7 : tie.Need-returns-7
-returns-7 c d ns g =
+returns-8 : tie.Need-returns-8
+returns-8 c d ns g =
     let c1 = c .before in
     let c4 = c1 .before .before .before in
     let c7 = c4 .before .before .before in
@@ -168,4 +186,5 @@ judge-expression-spec =
     returns-5
     returns-6
     returns-7
-    returns-8)
+    returns-8
+    returns-9)
