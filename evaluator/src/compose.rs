@@ -25,11 +25,22 @@ pub struct Decision {
     pub rounds: usize,
 }
 
+/// F of a template is composed once, where its binding begins.
 pub fn compose(policy: &Policy) -> Composed {
     let mut operands: Vec<Vec<u8>> = Vec::new();
+    let mut bindings: Vec<Vec<u8>> = Vec::new();
     let mut rounds = 0;
     for step in &policy.expression {
         let answers = match *step {
+            Step::Bind => {
+                bindings.push(pop(&mut operands));
+                continue;
+            }
+            Step::Unbind => {
+                bindings.pop();
+                continue;
+            }
+            Step::Bound(binding) => bindings[binding].clone(),
             Step::Table(table) => table_answers(policy, table),
             Step::Scope(sort, inside) => scope(policy, pop(&mut operands), sort, inside),
             Step::Closure(rule_set) => {

@@ -1,8 +1,9 @@
 //! Comparison with a corpus folder: `GROUP/NAME.pol` with the listing in
 //! `GROUP/NAME.out`; `asks.tsv` with what Decide returns; `lookups.tsv` with
 //! what the index of names gives; and the answers that `READINGS.md` shows for
-//! the files of the group `readings`. Below `cr/` each folder is a corpus of
-//! its own, that of a change request.
+//! the files of the group `readings`, or for those that have another letter for
+//! a name that is none any more. Below `cr/` each folder is a corpus of its own,
+//! that of a change request.
 
 use std::fs;
 use std::io;
@@ -78,6 +79,8 @@ pub fn lookup_line(file: &[u8], sort: Sort, name: &[u8]) -> String {
 
 /// The folder of the change requests' corpora.
 const REQUESTS: &str = "cr";
+/// Where readings that had `t` as a name stand with another letter.
+const RENAMED_READINGS: &str = "cr/renamed/readings";
 
 /// Compares a whole corpus. A folder that has nothing to compare is a failure.
 pub fn compare(folder: &Path) -> io::Result<Report> {
@@ -196,7 +199,12 @@ fn compare_readings(folder: &Path, report: &mut Report) -> io::Result<()> {
             continue;
         };
         let what = format!("READINGS.md {name}");
-        match fs::read(group.join(format!("{name}.pol"))) {
+        let renamed = folder.join(RENAMED_READINGS).join(format!("{name}.pol"));
+        let path = match renamed.exists() {
+            true => renamed,
+            false => group.join(format!("{name}.pol")),
+        };
+        match fs::read(path) {
             Ok(file) => {
                 let computed = called(&file, call, shown.len());
                 report.compare(&what, &shown.join("\n"), &computed);

@@ -1,14 +1,19 @@
 //! Expressions. The grammar (row 12) is read into a flat list of parts in the
-//! order in which they are composed: operands first, then what joins them. A
-//! flat list keeps long expressions, which are only refused at row 14, from
-//! nesting deeply. Names stand in it from left to right as in the text.
+//! order in which they are composed: operands first, then what joins them, and
+//! of a template `(t:x.E)(F)` F before E. A flat list keeps long expressions,
+//! which are only refused at row 14, from nesting deeply.
 
 use crate::policy::{MemberSet, Order, Policy, Sort, MOST_NAME_BYTES};
-use crate::reader::{is_name_byte, is_sort_letter};
+use crate::reader::{is_lone_letter, is_name_byte, is_sort_letter};
 
 pub const MOST_OPEN_BRACKETS: usize = 32;
 pub const MOST_SETS_HELD: usize = 14;
 pub const MOST_OPERATORS: usize = 64;
+/// Bindings in force at once, hidden ones counted.
+pub const MOST_BINDINGS: usize = 4;
+
+/// What stands behind the bracket of a template and of no other.
+const TEMPLATE: &[u8] = b"t:";
 
 #[derive(Clone, Copy, Debug, PartialEq, Eq)]
 pub enum Join {
@@ -27,12 +32,17 @@ pub struct Name<'a> {
 /// One part of an expression of the grammar, names not looked up yet.
 #[derive(Debug)]
 pub enum Part<'a> {
+    /// A table, or the x of a template around it.
     Table(Name<'a>),
     Closure(Name<'a>),
     Compared(Sort, Order, Name<'a>),
     Marked(Name<'a>, Sort),
     Join(Join),
     Override,
+    /// Stands between F and E: the name is bound to F.
+    Bind(Name<'a>),
+    /// Stands behind E: the last binding ends.
+    Unbind,
 }
 
 /// One step of composing: a part with its names looked up.
@@ -40,12 +50,18 @@ pub enum Part<'a> {
 pub enum Step {
     /// The table's number.
     Table(usize),
+    /// An x: the number of its binding among those in force, the outermost 0.
+    Bound(usize),
     /// The rule set's number.
     Closure(usize),
     /// Keeps the accesses whose member of the sort is in the set.
     Scope(Sort, MemberSet),
     Join(Join),
     Override,
+    /// The last operand's answers are those of a new binding.
+    Bind,
+    /// The last binding ends.
+    Unbind,
 }
 
 /// Reads an expression. On a fault: the length of the longest beginning of the
@@ -84,6 +100,10 @@ impl<'a> Reader<'a> {
         let next = self.peek() == Some(byte);
         self.place += usize::from(next);
         next
+    }
+
+    fn next_is(&self, bytes: &[u8]) -> bool {
+        self.text[self.place..].starts_with(bytes)
     }
 
     fn expect(&mut self, byte: u8) -> Result<(), usize> {
@@ -131,10 +151,13 @@ impl<'a> Reader<'a> {
     fn primary(&mut self) -> Result<(), usize> {
         if self.peek() == Some(b'(') {
             self.open_bracket()?;
+            if self.next_is(TEMPLATE) {
+                return self.template();
+            }
             self.expression()?;
             return self.close_bracket();
         }
-        if self.text[self.place..].starts_with(b"o(") {
+        if self.next_is(b"o(") {
             self.place += 1;
             self.open_bracket()?;
             self.expression()?;
@@ -148,6 +171,24 @@ impl<'a> Reader<'a> {
         let table = self.name()?;
         self.parts.push(Part::Table(table));
         Ok(())
+    }
+
+    /// The rest of `(t:x.E)(F)` behind its first bracket, which is closed before
+    /// F's own is opened. F's parts move before those of E.
+    fn template(&mut self) -> Result<(), usize> {
+        self.place += TEMPLATE.len();
+        let bound = self.name()?;
+        self.expect(b'.')?;
+        let start = self.parts.len();
+        self.parts.push(Part::Bind(bound));
+        self.expression()?;
+        self.parts.push(Part::Unbind);
+        self.close_bracket()?;
+        let end = self.parts.len();
+        self.open_bracket()?;
+        self.expression()?;
+        self.parts[start..].rotate_left(end - start);
+        self.close_bracket()
     }
 
     fn open_bracket(&mut self) -> Result<(), usize> {
@@ -222,8 +263,9 @@ impl<'a> Reader<'a> {
         &rest[..end.unwrap_or(rest.len())]
     }
 
-    /// A sort's letter alone may still begin a longer name, so the fault is
-    /// after it; so are the first 24 bytes of a name that is too long good.
+    /// A letter that is no name alone may still begin a longer name, so the
+    /// fault is after it; so are the first 24 bytes of a name that is too long
+    /// good.
     fn name(&mut self) -> Result<Name<'a>, usize> {
         let place = self.place;
         if !self.peek().is_some_and(|byte| byte.is_ascii_lowercase()) {
@@ -234,7 +276,7 @@ impl<'a> Reader<'a> {
             return Err(place + MOST_NAME_BYTES);
         }
         self.place += text.len();
-        match is_sort_letter(text) {
+        match is_lone_letter(text) {
             true => Err(self.place),
             false => Ok(Name { text, place }),
         }
@@ -244,15 +286,25 @@ impl<'a> Reader<'a> {
 /// Looks all names up. On a fault: the place of the leftmost name that is not
 /// declared as the kind and sort its place needs.
 pub fn steps(policy: &Policy, parts: &[Part]) -> Result<Vec<Step>, usize> {
-    parts.iter().map(|part| step(policy, part)).collect()
+    let mut bound = Vec::new();
+    let steps = parts.iter().map(|part| step(policy, &mut bound, part));
+    let steps: Vec<Result<Step, usize>> = steps.collect();
+    // E's names stand to the left of F's, though F's parts come first.
+    match steps.iter().filter_map(|step| step.err()).min() {
+        Some(leftmost) => Err(leftmost),
+        None => Ok(steps.into_iter().flatten().collect()),
+    }
 }
 
-fn step(policy: &Policy, part: &Part) -> Result<Step, usize> {
+/// A part with its name looked up. The names bound so far are those in force
+/// there, the innermost last.
+fn step<'a>(
+    policy: &Policy,
+    bound: &mut Vec<&'a [u8]>,
+    part: &Part<'a>,
+) -> Result<Step, usize> {
     match *part {
-        Part::Table(name) => {
-            let table = policy.table(name.text);
-            Ok(Step::Table(table.ok_or(name.place)?))
-        }
+        Part::Table(name) => table_or_bound(policy, bound, name).ok_or(name.place),
         Part::Closure(name) => {
             let rule_set = policy.rule_set(name.text);
             Ok(Step::Closure(rule_set.ok_or(name.place)?))
@@ -270,6 +322,22 @@ fn step(policy: &Policy, part: &Part) -> Result<Step, usize> {
         }
         Part::Join(join) => Ok(Step::Join(join)),
         Part::Override => Ok(Step::Override),
+        Part::Bind(name) => {
+            bound.push(name.text);
+            Ok(Step::Bind)
+        }
+        Part::Unbind => {
+            bound.pop();
+            Ok(Step::Unbind)
+        }
+    }
+}
+
+/// A bound name hides a table and the outer bindings of that name.
+fn table_or_bound(policy: &Policy, bound: &[&[u8]], name: Name) -> Option<Step> {
+    match bound.iter().rposition(|&known| known == name.text) {
+        Some(binding) => Some(Step::Bound(binding)),
+        None => policy.table(name.text).map(Step::Table),
     }
 }
 
@@ -278,8 +346,9 @@ pub fn too_large(steps: &[Step]) -> bool {
     sets_held(steps) > MOST_SETS_HELD || operators(steps) > MOST_OPERATORS
 }
 
+/// A template is one, counted where its binding begins.
 pub fn operators(steps: &[Step]) -> usize {
-    let operator = |step: &&Step| !matches!(step, Step::Table(_));
+    let operator = |step: &&Step| !matches!(step, Step::Table(_) | Step::Bound(_) | Step::Unbind);
     steps.iter().filter(operator).count()
 }
 
@@ -287,9 +356,9 @@ pub fn sets_held(steps: &[Step]) -> usize {
     let mut held: Vec<usize> = Vec::new();
     for step in steps {
         let sets = match step {
-            Step::Table(_) => 1,
-            // As their operand.
-            Step::Closure(_) | Step::Scope(..) => pop(&mut held),
+            Step::Table(_) | Step::Bound(_) => 1,
+            // As their operand; F's stay there until E is done.
+            Step::Closure(_) | Step::Scope(..) | Step::Bind => pop(&mut held),
             Step::Join(_) => {
                 let (right, left) = (pop(&mut held), pop(&mut held));
                 left.max(1 + right)
@@ -299,10 +368,34 @@ pub fn sets_held(steps: &[Step]) -> usize {
                 let (second, first) = (pop(&mut held), pop(&mut held));
                 first.max(1 + second).max(2 + third)
             }
+            Step::Unbind => {
+                let (e, f) = (pop(&mut held), pop(&mut held));
+                f.max(1 + e)
+            }
         };
         held.push(sets);
     }
     pop(&mut held)
+}
+
+/// Row 16: more than 4 bindings in force at once.
+pub fn too_many_bindings(steps: &[Step]) -> bool {
+    bindings(steps) > MOST_BINDINGS
+}
+
+/// The most bindings that are in force at once: for a template the larger of
+/// F's and 1 + E's.
+pub fn bindings(steps: &[Step]) -> usize {
+    let (mut now, mut most) = (0, 0);
+    for step in steps {
+        match step {
+            Step::Bind => now += 1,
+            Step::Unbind => now -= 1,
+            _ => {}
+        }
+        most = most.max(now);
+    }
+    most
 }
 
 /// The last operand. The grammar puts one there for each that a step takes.

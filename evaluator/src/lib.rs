@@ -1,6 +1,7 @@
 //! The separate evaluator: document 01's three calls and its listing program,
-//! and document 02's index of names, written straight from these documents. It
-//! lends no buffers and has no working memory, so number 1 never comes from it.
+//! and document 02's templates and index of names, written straight from these
+//! documents. It lends no buffers and has no working memory, so number 1 never
+//! comes from it.
 
 pub mod closure;
 pub mod compose;

@@ -20,7 +20,7 @@ const USAGE: &str = "usage:
   evaluator decide SUBJECT OBJECT ACTION < FILE
   evaluator lookup S|O|A NAME < FILE
   evaluator fnv TEXT
-  evaluator generate SEED COUNT sound|damaged|large|mixed|crowded|ruled|worst DIR
+  evaluator generate SEED COUNT sound|damaged|large|mixed|crowded|ruled|worst|templates DIR
   evaluator corpus DIR
   evaluator check-folder|compose-folder|lookup-folder DIR
   evaluator edges|larger DIR

@@ -1,5 +1,6 @@
 //! The reader of policy files. Every line is tested in the order of document
-//! 01's table, from 3 down to 14, before the next line is looked at.
+//! 01's table, from 3 down to 14, and then for document 02's 16, before the
+//! next line is looked at.
 
 use crate::expression;
 use crate::policy::*;
@@ -27,16 +28,22 @@ pub fn read(file: &[u8]) -> Result<Policy, Refusal> {
     Ok(reader.policy)
 }
 
-/// 1 to 24 bytes of a–z, 0–9 and `_`, a letter first, and not `s`, `o` or `a`.
+/// 1 to 24 bytes of a–z, 0–9 and `_`, a letter first, and none of `s`, `o`, `a`
+/// and `t` alone.
 pub fn is_name(text: &[u8]) -> bool {
     text.first().is_some_and(u8::is_ascii_lowercase)
         && text.len() <= MOST_NAME_BYTES
         && text.iter().all(|&byte| is_name_byte(byte))
-        && !is_sort_letter(text)
+        && !is_lone_letter(text)
 }
 
 pub fn is_name_byte(byte: u8) -> bool {
     matches!(byte, b'a'..=b'z' | b'0'..=b'9' | b'_')
+}
+
+/// A letter that alone is no name: a sort's, or that of templates.
+pub fn is_lone_letter(text: &[u8]) -> bool {
+    is_sort_letter(text) || text == b"t"
 }
 
 pub fn is_sort_letter(text: &[u8]) -> bool {
@@ -356,13 +363,14 @@ impl Reader {
         Ok(())
     }
 
-    /// Rows 12, 13 and 14 each read the whole expression before the next.
+    /// Rows 12, 13, 14 and 16 each read the whole expression before the next.
     fn take_expression(&mut self, limit: usize, text: &[u8]) -> Result<(), Refusal> {
         self.refuse_if(limit > MOST_LIMIT, 7)?;
         let parts = expression::parts(text).map_err(|place| self.refuse_at(12, place))?;
         let steps = expression::steps(&self.policy, &parts);
         let steps = steps.map_err(|place| self.refuse_at(13, place))?;
         self.refuse_if(expression::too_large(&steps), 14)?;
+        self.refuse_if(expression::too_many_bindings(&steps), 16)?;
         self.policy.limit = limit;
         self.policy.expression = steps;
         Ok(())

@@ -1,4 +1,4 @@
-//! Refusals: document 01's table of returns.
+//! Refusals: document 01's table of returns, and document 02's number 16.
 
 use std::fmt;
 

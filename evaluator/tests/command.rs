@@ -6,10 +6,10 @@ use std::ffi::OsStr;
 use std::fs;
 use std::io::Write;
 use std::os::unix::ffi::OsStrExt;
-use std::path::PathBuf;
+use std::path::{Path, PathBuf};
 use std::process::{Command, Output, Stdio};
 
-use common::{file, W};
+use common::{file, M, W};
 
 fn run(arguments: &[&[u8]], input: &[u8]) -> Output {
     let mut child = Command::new(env!("CARGO_BIN_EXE_evaluator"))
@@ -91,17 +91,20 @@ fn generate_writes_the_files() {
     assert_eq!(fs::read_dir(&folder).expect("a folder").count(), 3);
 }
 
+/// Whether a corpus agrees, and the last line of the report.
+fn corpus_report(folder: &Path) -> (bool, String) {
+    let output = run(&[b"corpus", folder.as_os_str().as_bytes()], b"");
+    let text = String::from_utf8(output.stdout).expect("ASCII");
+    let last = text.lines().last().unwrap_or_default().to_string();
+    (output.status.success(), last)
+}
+
 #[test]
 fn corpus_finds_each_kind_of_difference() {
     let folder = folder("corpus");
     fs::create_dir_all(folder.join("readings")).expect("a folder");
     let write = |name: &str, text: &[u8]| fs::write(folder.join(name), text).expect("written");
-    let report = || {
-        let output = run(&[b"corpus", folder.as_os_str().as_bytes()], b"");
-        let text = String::from_utf8(output.stdout).expect("ASCII");
-        let last = text.lines().last().unwrap_or_default().to_string();
-        (output.status.success(), last)
-    };
+    let report = || corpus_report(&folder);
     assert_eq!(report(), (false, "0 passed, 1 failed".to_string()));
     let policy = file(&format!("{W} E,0,forms"));
     let listing = b"grants,4,1,0,0\npermit,staff,week,read\n";
@@ -127,4 +130,31 @@ fn corpus_finds_each_kind_of_difference() {
     // A policy that no reading shows, and one without a listing.
     write("readings/01b.pol", &policy);
     assert_eq!(report(), (false, "2 passed, 2 failed".to_string()));
+}
+
+#[test]
+fn a_reading_with_another_letter_is_the_one_shown() {
+    let folder = folder("renamed");
+    fs::create_dir_all(folder.join("readings")).expect("a folder");
+    fs::create_dir_all(folder.join("cr/renamed/readings")).expect("a folder");
+    let write = |name: &str, text: &[u8]| fs::write(folder.join(name), text).expect("written");
+    write("readings/01a.pol", &file(&format!("{M} T,t,here E,0,t")));
+    write("readings/01a.out", b"refused,3,4,0\n");
+    write(
+        "READINGS.md",
+        b"- 01a: M / `T,t,here` / `E,0,t` -> `ok,1,1,1`\n",
+    );
+    write(
+        "cr/renamed/readings/01a.pol",
+        &file(&format!("{M} T,w,here E,0,w")),
+    );
+    write("cr/renamed/readings/01a.out", b"grants,1,0,0,0\n");
+    let passed = (true, "3 passed, 0 failed".to_string());
+    assert_eq!(corpus_report(&folder), passed);
+    write(
+        "cr/renamed/readings/01a.pol",
+        &file(&format!("{M} T,w,away E,0,w+")),
+    );
+    let failed = (false, "1 passed, 3 failed".to_string());
+    assert_eq!(corpus_report(&folder), failed);
 }

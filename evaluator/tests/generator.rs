@@ -1,9 +1,12 @@
 //! The generator: its numbers, its kinds, and what the calls agree on over
 //! its files.
 
-use evaluator::expression::{operators, sets_held, Join, Step};
+mod common;
+
+use common::tree::{split_expression, tree, Tree};
+use evaluator::expression::{bindings, operators, sets_held, Join, Step};
 use evaluator::generate::random::Random;
-use evaluator::generate::{self, Kind};
+use evaluator::generate::{self, has_template, Kind};
 use evaluator::index::{slot, Index, SLOTS};
 use evaluator::policy::{Atom, Policy, Rule, Term};
 use evaluator::reader::read;
@@ -59,6 +62,9 @@ fn constructs(policy: &Policy, file: &[u8]) -> Vec<String> {
             Step::Override => "override".to_string(),
             Step::Closure(_) => "closure".to_string(),
             Step::Scope(sort, _) => format!("scope of {sort:?}"),
+            Step::Bound(_) => "bound name".to_string(),
+            Step::Bind => "template".to_string(),
+            Step::Unbind => continue,
         });
     }
     let text = String::from_utf8_lossy(file);
@@ -119,7 +125,7 @@ fn sound_files_are_accepted_and_use_every_construct() {
         rounds += usize::from(composed.rounds > 1);
     }
     let wanted = "body of 0/body of 1/body of 2/body of 3/body of 4/grant/has/Le/Ge/Lt/Gt/Eq/\
-        table here true/table here false/override/closure/\
+        table here true/table here false/override/closure/template/bound name/\
         scope of Subject/scope of Object/scope of Action/\
         text <=/text >=/text ^[s</text =/text (s)]/text (o)]/text (a)]/text +(/text */text ,o(/\
         repeated P/repeated G/parent/longest name/several rule sets/limit 0/limit 4096";
@@ -130,6 +136,130 @@ fn sound_files_are_accepted_and_use_every_construct() {
     }
     assert!(answers.iter().all(|&times| times > 1_000), "{answers:?}");
     assert!(rounds > 20, "{rounds}");
+}
+
+/// How the templates of an expression are used: where they stand, what stands
+/// in them and what their names mean elsewhere. `around` is right around the
+/// tree, the names bound there are given, the innermost last.
+fn template_uses(
+    policy: &Policy,
+    tree: &Tree,
+    around: &str,
+    bound: &mut Vec<String>,
+    found: &mut Vec<String>,
+) {
+    let below = match tree {
+        Tree::Leaf(_) => "table",
+        Tree::Post(_, text) if text.starts_with('*') => "closure",
+        Tree::Post(..) => "scope",
+        Tree::Join(..) => "join",
+        Tree::Override(_) => "override",
+        Tree::Template(..) => "template",
+    };
+    if let Tree::Template(x, e, f) = tree {
+        found.push(format!("template in {around}"));
+        found.extend(name_uses(policy, x, bound));
+        if !e.has_free(x) {
+            found.push("unused".to_string());
+        }
+        template_uses(policy, f, "F", bound, found);
+        bound.push(x.clone());
+        found.push(format!("{} bindings", bound.len()));
+        template_uses(policy, e, "E", bound, found);
+        bound.pop();
+        return;
+    }
+    if ["E", "F"].contains(&around) {
+        found.push(format!("{below} in {around}"));
+    }
+    for inner in tree.below() {
+        template_uses(policy, inner, below, bound, found);
+    }
+}
+
+/// What else a bound name means.
+fn name_uses(policy: &Policy, x: &str, bound: &[String]) -> Vec<String> {
+    let (name, mut uses) = (x.as_bytes(), Vec::new());
+    let mut note = |met: bool, what: &str| {
+        if met {
+            uses.push(format!("x is a {what}"));
+        }
+    };
+    note(policy.table(name).is_some(), "table");
+    note(policy.rule_set(name).is_some(), "rule set");
+    note(bound.iter().any(|outer| outer == x), "bound name");
+    let members = &policy.members;
+    note(members.iter().any(|m| m.number(name).is_some()), "member");
+    let predicates = &policy.predicates;
+    note(predicates.iter().any(|p| p.name == name), "predicate");
+    uses
+}
+
+#[test]
+fn templates_stand_in_every_form_and_every_form_in_them() {
+    for kind in [Kind::Sound, Kind::Templates] {
+        let mut found = Vec::new();
+        for file in files(13, 1_200, kind) {
+            let Ok(policy) = read(&file) else { continue };
+            let (_, text) = split_expression(&file).expect("an expression");
+            let tree = tree(text).expect("of the grammar");
+            template_uses(&policy, &tree, "nothing", &mut Vec::new(), &mut found);
+        }
+        let wanted = "template in nothing/template in E/template in F/template in closure/\
+            template in scope/template in join/template in override/\
+            table in E/closure in E/scope in E/join in E/override in E/\
+            table in F/closure in F/scope in F/join in F/override in F/\
+            unused/1 bindings/2 bindings/3 bindings/4 bindings/\
+            x is a table/x is a bound name/x is a member/x is a rule set/x is a predicate";
+        for use_of_template in wanted.split('/') {
+            let times = found.iter().filter(|known| *known == use_of_template);
+            let times = times.count();
+            assert!(times >= 10, "{kind:?} {use_of_template}: {times}");
+        }
+    }
+}
+
+#[test]
+fn half_of_the_mixed_files_have_a_template() {
+    let share = |kind| {
+        files(14, 800, kind)
+            .filter(|file| has_template(file))
+            .count()
+    };
+    for kind in [Kind::Sound, Kind::Damaged, Kind::Large, Kind::Mixed] {
+        assert!(
+            (320..=560).contains(&share(kind)),
+            "{kind:?}: {}",
+            share(kind)
+        );
+    }
+    assert_eq!(share(Kind::Templates), 800);
+}
+
+#[test]
+fn template_files_are_accepted_or_past_one_limit() {
+    let (mut accepted, mut numbers) = (0, Vec::new());
+    let (mut most_sets, mut most_operators, mut most_bindings) = (0, 0, 0);
+    for (number, file) in files(15, 800, Kind::Templates).enumerate() {
+        match read(&file) {
+            Ok(policy) => {
+                accepted += 1;
+                most_sets = most_sets.max(sets_held(&policy.expression));
+                most_operators = most_operators.max(operators(&policy.expression));
+                most_bindings = most_bindings.max(bindings(&policy.expression));
+            }
+            Err(refusal) => {
+                assert_eq!(number % 4, 3, "{refusal}");
+                numbers.push(refusal.number);
+            }
+        }
+    }
+    assert!((640..760).contains(&accepted), "{accepted}");
+    assert_eq!((most_sets, most_operators, most_bindings), (14, 64, 4));
+    for wanted in [12, 14, 16] {
+        let times = numbers.iter().filter(|&&number| number == wanted).count();
+        assert!(times >= 10, "{wanted}: {times}");
+    }
 }
 
 fn closures(policy: &Policy) -> usize {
@@ -227,13 +357,13 @@ fn worst_files_have_many_rounds() {
 
 #[test]
 fn damaged_files_meet_every_refusal() {
-    let mut times = [0; 16];
+    let mut times = [0; 17];
     for file in files(4, 600, Kind::Damaged) {
         if let Err(refusal) = check(&file) {
             times[refusal.number as usize] += 1;
         }
     }
-    for number in 2..=14 {
+    for number in (2..=14).chain([16]) {
         assert!(times[number] >= 10, "{number}: {times:?}");
     }
 }
@@ -256,8 +386,9 @@ fn large_files_are_near_the_limits() {
     assert!(some(&|policy| operators(&policy.expression) == 64));
     assert!(some(&|policy| sets_held(&policy.expression) == 14));
     assert!(some(&|policy| closures(policy) == 43));
+    assert!(some(&|policy| bindings(&policy.expression) == 4));
     let number = |file: &Vec<u8>| check(file).err().map(|refusal| refusal.number);
-    for wanted in [2, 12, 13, 14] {
+    for wanted in [2, 12, 13, 14, 16] {
         assert!(
             all.iter().any(|file| number(file) == Some(wanted)),
             "{wanted}"
@@ -342,7 +473,11 @@ fn assert_calls_agree(file: &[u8]) {
 
 #[test]
 fn calls_agree() {
-    for file in files(10, 240, Kind::Mixed).chain(files(10, 120, Kind::Ruled)) {
+    let mixed = files(10, 240, Kind::Mixed);
+    for file in mixed
+        .chain(files(10, 120, Kind::Ruled))
+        .chain(files(10, 120, Kind::Templates))
+    {
         assert_calls_agree(&file);
     }
 }
@@ -350,7 +485,7 @@ fn calls_agree() {
 #[test]
 fn senseless_bytes_are_refused() {
     let random = &mut Random::from_state(40);
-    let bytes = b"SOAPTGRBE,,,,\n\n-?0123abcxyz_hereawaygrant()[]^*+&<>=\r\0\x80\xff";
+    let bytes = b"SOAPTGRBE,,,,\n\n-?0123abcxyz_hereawaygrant()[]^*+&<>=:.\r\0\x80\xff";
     for _ in 0..2_000 {
         let length = random.between(0, 300);
         let mut file: Vec<u8> = (0..length).map(|_| random.choose(bytes)).collect();

@@ -2,7 +2,7 @@
 
 mod common;
 
-use common::{file, many, refusal, M, MT, W};
+use common::{file, many, refusal, M, MB, W};
 use evaluator::decide;
 
 /// Compares the refusal of each file, given as lines parted by blanks.
@@ -16,17 +16,17 @@ fn expect(cases: &[(&str, u32, usize, usize)]) {
     }
 }
 
-/// The same for lines that follow those of MT.
+/// The same for lines that follow those of MB.
 fn expect_after_mt(cases: &[(&str, u32, usize, usize)]) {
     for &(lines, number, line, place) in cases {
-        let all = format!("{MT} {lines}");
+        let all = format!("{MB} {lines}");
         assert_eq!(refusal(&file(&all)), Some((number, line, place)), "{lines}");
     }
 }
 
-/// The place at which MT refuses an expression with 12.
+/// The place at which MB refuses an expression with 12.
 fn fault(expression: &str) -> usize {
-    match refusal(&[&file(MT)[..], b"E,0,", expression.as_bytes(), b"\n"].concat()) {
+    match refusal(&[&file(MB)[..], b"E,0,", expression.as_bytes(), b"\n"].concat()) {
         Some((12, 5, place)) => place,
         other => panic!("{expression}: {other:?}"),
     }
@@ -85,14 +85,14 @@ fn row_3_form_of_other_lines() {
         "P,S,p,?0",
         "P,S,p,-",
         "P,S,p,x,",
-        "T,t",
-        "T,t,Here",
-        "T,t,",
+        "T,b",
+        "T,b,Here",
+        "T,b,",
         "T,?0,here",
-        "G,t,x,y",
-        "G,t,x,y,?0",
-        "G,t,s,o,a",
-        "G,t,x,y,z,z",
+        "G,b,x,y",
+        "G,b,x,y,?0",
+        "G,b,s,o,a",
+        "G,b,x,y,z,z",
         "R,r,?0,?1",
         "R,r,?0,?1,?4",
         "R,r,?0,?1,?",
@@ -109,14 +109,14 @@ fn row_3_form_of_other_lines() {
         "E",
         "E,0",
         "E,0,",
-        "E,,t",
-        "E,00,t",
-        "E,01,t",
-        "E,0999,t",
-        "E,10000,t",
-        "E,-1,t",
-        "E,+1,t",
-        "E,1x,t",
+        "E,,b",
+        "E,00,b",
+        "E,01,b",
+        "E,0999,b",
+        "E,10000,b",
+        "E,-1,b",
+        "E,+1,b",
+        "E,1x,b",
         "E,4097,",
     ] {
         expect_after_mt(&[(line, 3, 5, 0)]);
@@ -126,10 +126,10 @@ fn row_3_form_of_other_lines() {
 #[test]
 fn row_3_after_the_expression() {
     assert_eq!(
-        refusal(&[&file(&format!("{MT} E,0,t")), &b"\n"[..]].concat()),
+        refusal(&[&file(&format!("{MB} E,0,b")), &b"\n"[..]].concat()),
         Some((3, 6, 0))
     );
-    expect_after_mt(&[("E,0,t Q", 3, 6, 0), ("E,0,t E,00,t", 3, 6, 0)]);
+    expect_after_mt(&[("E,0,b Q", 3, 6, 0), ("E,0,b E,00,b", 3, 6, 0)]);
 }
 
 #[test]
@@ -143,26 +143,26 @@ fn row_4_order() {
     expect_after_mt(&[
         ("S,w,-", 4, 5, 0),
         ("P,S,p,x", 4, 5, 0),
-        ("G,t,x,y,z T,u,here", 4, 6, 0),
-        ("R,r,x,y,z G,t,x,y,z", 4, 6, 0),
+        ("G,b,x,y,z T,u,here", 4, 6, 0),
+        ("R,r,x,y,z G,b,x,y,z", 4, 6, 0),
         ("B,eq,S,x,x", 4, 5, 0),
-        ("E,0,t E,0,t", 4, 6, 0),
-        ("E,0,t S,x,-", 4, 6, 0),
-        ("E,0,t R,r,x,y,z", 4, 6, 0),
+        ("E,0,b E,0,b", 4, 6, 0),
+        ("E,0,b S,x,-", 4, 6, 0),
+        ("E,0,b R,r,x,y,z", 4, 6, 0),
     ]);
 }
 
 #[test]
 fn row_8_sorts() {
     expect(&[
-        ("E,4097,t", 8, 1, 0),
-        ("S,x,- T,t,here", 8, 2, 0),
+        ("E,4097,b", 8, 1, 0),
+        ("S,x,- T,b,here", 8, 2, 0),
         ("S,x,- O,y,- E,0,(", 8, 3, 0),
         ("O,y,- A,z,- P,S,p,nobody", 8, 3, 0),
     ]);
     let large = many(64, "S,s#,-") + " " + &many(16, "O,o#,-") + " " + &many(5, "A,a#,-");
     expect(&[
-        (&format!("{large} T,t,here E,0,t"), 8, 86, 0),
+        (&format!("{large} T,b,here E,0,b"), 8, 86, 0),
         // No line that is not S, O or A: 8 is never tested.
         (&large, 9, 0, 0),
         ("S,x,-", 9, 0, 0),
@@ -224,7 +224,7 @@ fn row_7_rules() {
 
 #[test]
 fn row_7_limit_before_the_expression() {
-    expect_after_mt(&[("E,4097,nobody+", 7, 5, 0), ("E,9999,t", 7, 5, 0)]);
+    expect_after_mt(&[("E,4097,nobody+", 7, 5, 0), ("E,9999,b", 7, 5, 0)]);
 }
 
 #[test]
@@ -235,7 +235,7 @@ fn row_5_declared_already() {
         ("S,x,- S,x,nobody", 5, 2, 0),
         ("S,x,- O,x,- A,x,-", 9, 0, 0),
     ]);
-    expect_after_mt(&[("T,t,here", 5, 5, 0), ("T,t,away", 5, 5, 0)]);
+    expect_after_mt(&[("T,b,here", 5, 5, 0), ("T,b,away", 5, 5, 0)]);
 }
 
 #[test]
@@ -249,9 +249,9 @@ fn row_6_not_declared() {
     ]);
     expect_after_mt(&[
         ("G,u,x,y,z", 6, 5, 0),
-        ("G,t,y,y,z", 6, 5, 0),
-        ("G,t,x,x,z", 6, 5, 0),
-        ("G,t,x,y,x", 6, 5, 0),
+        ("G,b,y,y,z", 6, 5, 0),
+        ("G,b,x,x,z", 6, 5, 0),
+        ("G,b,x,y,x", 6, 5, 0),
         ("R,r,y,y,z", 6, 5, 0),
         ("R,r,x,y,nobody", 6, 5, 0),
         ("R,r,x,y,z B,grant,x,z,z", 6, 6, 0),
@@ -265,10 +265,10 @@ fn row_6_not_declared() {
 
 #[test]
 fn row_10_grant_for_an_away_table() {
-    let away = format!("{M} T,t,away");
+    let away = format!("{M} T,b,away");
     expect(&[
-        (&format!("{away} G,t,x,y,z"), 10, 5, 0),
-        (&format!("{away} G,t,x,y,nobody"), 6, 5, 0),
+        (&format!("{away} G,b,x,y,z"), 10, 5, 0),
+        (&format!("{away} G,b,x,y,nobody"), 6, 5, 0),
     ]);
 }
 
@@ -289,8 +289,8 @@ fn row_11_variable_at_two_sorts() {
 #[test]
 fn row_12_ends_too_early() {
     for text in [
-        "(t", "o(t,t", "o(", "t^", "t^[", "t^[s", "t^[s<", "t^[s<=", "t^[p", "t^[p(", "t^[p(s",
-        "t^[p(s)", "t^[s=x", "t*", "t+", "t&(t-", "s", "t*a",
+        "(b", "o(b,b", "o(", "b^", "b^[", "b^[s", "b^[s<", "b^[s<=", "b^[p", "b^[p(", "b^[p(s",
+        "b^[p(s)", "b^[s=x", "b*", "b+", "b&(b-", "s", "b*a",
     ] {
         assert_eq!(fault(text), text.len(), "{text}");
     }
@@ -301,51 +301,51 @@ fn row_12_place() {
     for (text, place) in [
         (",", 0),
         (")", 0),
-        ("+t", 0),
+        ("+b", 0),
         ("9", 0),
         ("_t", 0),
         ("T", 0),
-        (" t", 0),
+        (" b", 0),
         ("\u{e9}", 0),
-        ("t t", 1),
-        ("t\r", 1),
-        ("t,t", 1),
-        ("t)", 1),
-        ("t(t)", 1),
-        ("t[s=x]", 1),
+        ("b b", 1),
+        ("b\r", 1),
+        ("b,b", 1),
+        ("b)", 1),
+        ("b(b)", 1),
+        ("b[s=x]", 1),
         ("tT", 1),
-        ("s+t", 1),
-        ("o+t", 1),
-        ("t&(o)", 4),
-        ("t*a+t", 3),
-        ("t^[s=o]", 6),
-        ("t^s=x", 2),
-        ("o(t)", 3),
-        ("o(t,t)", 5),
-        ("o(t,t,t,t)", 7),
-        ("(t,t)", 2),
-        ("o((t,t),t)", 4),
-        ("oo(t,t,t)", 2),
+        ("s+b", 1),
+        ("o+b", 1),
+        ("b&(o)", 4),
+        ("b*a+b", 3),
+        ("b^[s=o]", 6),
+        ("b^s=x", 2),
+        ("o(b)", 3),
+        ("o(b,b)", 5),
+        ("o(b,b,b,b)", 7),
+        ("(b,b)", 2),
+        ("o((b,b),b)", 4),
+        ("oo(b,b,b)", 2),
         ("o(,,)", 2),
         ("()", 1),
-        ("t**r", 2),
-        ("t++t", 2),
-        ("t^^[s=x]", 2),
-        ("t^[]", 3),
-        ("t^[s]", 4),
-        ("t^[s(s)]", 4),
-        ("t^[x<=x]", 4),
-        ("t^[x=s]", 4),
-        ("t^[s<>x]", 5),
-        ("t^[s==x]", 5),
-        ("t^[s=<x]", 5),
-        ("t^[s>=<x]", 6),
-        ("t^[s<=x)", 7),
-        ("t^[p(x)]", 5),
-        ("t^[p(sx)]", 6),
-        ("t^[p(s]", 6),
-        ("t^[p(s))", 7),
-        ("t^[1(s)]", 3),
+        ("b**r", 2),
+        ("b++b", 2),
+        ("b^^[s=x]", 2),
+        ("b^[]", 3),
+        ("b^[s]", 4),
+        ("b^[s(s)]", 4),
+        ("b^[x<=x]", 4),
+        ("b^[x=s]", 4),
+        ("b^[s<>x]", 5),
+        ("b^[s==x]", 5),
+        ("b^[s=<x]", 5),
+        ("b^[s>=<x]", 6),
+        ("b^[s<=x)", 7),
+        ("b^[p(x)]", 5),
+        ("b^[p(sx)]", 6),
+        ("b^[p(s]", 6),
+        ("b^[p(s))", 7),
+        ("b^[1(s)]", 3),
     ] {
         assert_eq!(fault(text), place, "{text}");
     }
@@ -355,54 +355,54 @@ fn row_12_place() {
 fn row_12_long_names() {
     let long = "n".repeat(25);
     assert_eq!(fault(&long), 24);
-    assert_eq!(fault(&format!("t*{long}")), 26);
-    assert_eq!(fault(&format!("t^[{long}(s)]")), 27);
-    assert_eq!(fault(&format!("t^[s={long}]")), 29);
+    assert_eq!(fault(&format!("b*{long}")), 26);
+    assert_eq!(fault(&format!("b^[{long}(s)]")), 27);
+    assert_eq!(fault(&format!("b^[s={long}]")), 29);
 }
 
 #[test]
 fn row_12_brackets() {
     let (open, close) = ("(".repeat(32), ")".repeat(32));
-    assert_eq!(fault(&format!("({open}t{close})")), 32);
-    assert_eq!(fault(&format!("{open}o(t,t,t){close}")), 33);
-    assert_eq!(fault(&format!("{open}t{close}+{open}({open}")), 98);
-    let deep = "o(t,t,".repeat(32);
-    assert_eq!(fault(&format!("{deep}(t){close}")), deep.len());
-    let good = format!("{M} P,S,p,x T,t,here E,0,{open}t^[p(s)]{close}+(t)");
+    assert_eq!(fault(&format!("({open}b{close})")), 32);
+    assert_eq!(fault(&format!("{open}o(b,b,b){close}")), 33);
+    assert_eq!(fault(&format!("{open}b{close}+{open}({open}")), 98);
+    let deep = "o(b,b,".repeat(32);
+    assert_eq!(fault(&format!("{deep}(b){close}")), deep.len());
+    let good = format!("{M} P,S,p,x T,b,here E,0,{open}b^[p(s)]{close}+(b)");
     assert_eq!(refusal(&file(&good)), None);
 }
 
 #[test]
 fn row_12_before_13_and_14() {
     assert_eq!(fault("nobody+"), 7);
-    let long = "t+".repeat(16_000);
+    let long = "b+".repeat(16_000);
     assert_eq!(fault(&long), long.len());
 }
 
 #[test]
 fn row_13_names() {
     let rest = "R,r,?0,?1,?2 E,0,";
-    let lines = |expression: &str| format!("{M} P,S,p,x T,t,here {rest}{expression}");
+    let lines = |expression: &str| format!("{M} P,S,p,x T,b,here {rest}{expression}");
     for (expression, place) in [
         ("u", 0),
         ("r", 0),
-        ("t*t", 2),
-        ("t^[s=y]", 5),
-        ("t^[s<=y]", 6),
-        ("t^[p(o)]", 3),
-        ("t^[t(s)]", 3),
-        ("t^[o=x]*q+u", 5),
+        ("b*b", 2),
+        ("b^[s=y]", 5),
+        ("b^[s<=y]", 6),
+        ("b^[p(o)]", 3),
+        ("b^[b(s)]", 3),
+        ("b^[o=x]*q+u", 5),
         ("u^[o=x]", 0),
-        ("t+(t-u)", 5),
-        ("o(t,u,q)", 4),
-        ("t*p", 2),
-        ("t^[a=z]+x", 8),
+        ("b+(b-u)", 5),
+        ("o(b,u,q)", 4),
+        ("b*p", 2),
+        ("b^[a=z]+x", 8),
     ] {
         expect(&[(&lines(expression), 13, 7, place)]);
     }
-    expect(&[(&format!("{M} E,0,t"), 13, 4, 0)]);
+    expect(&[(&format!("{M} E,0,b"), 13, 4, 0)]);
     // Before 14.
-    let long = "t+".repeat(70) + "u";
+    let long = "b+".repeat(70) + "u";
     expect(&[(&lines(&long), 13, 7, 140)]);
 }
 
@@ -410,42 +410,42 @@ fn row_13_names() {
 fn row_14_operators() {
     let lines = |operators: usize| {
         let scopes = "^[s<=x]".repeat(operators - 1);
-        format!("{MT} E,0,o(t,t,t){scopes}")
+        format!("{MB} E,0,o(b,b,b){scopes}")
     };
     assert_eq!(refusal(&file(&lines(64))), None);
     expect(&[(&lines(65), 14, 5, 0)]);
-    for operator in ["+t", "&t", "-t", "*r", "^[s=x]"] {
+    for operator in ["+b", "&b", "-b", "*r", "^[s=x]"] {
         let lines = |count: usize| {
-            let expression = "t".to_string() + &operator.repeat(count);
-            format!("{MT} R,r,x,y,z E,0,{expression}")
+            let expression = "b".to_string() + &operator.repeat(count);
+            format!("{MB} R,r,x,y,z E,0,{expression}")
         };
         assert_eq!(refusal(&file(&lines(64))), None, "{operator}");
         expect(&[(&lines(65), 14, 6, 0)]);
     }
-    expect(&[(&format!("{MT} E,0,t{}", "+t".repeat(16_000)), 14, 5, 0)]);
+    expect(&[(&format!("{MB} E,0,b{}", "+b".repeat(16_000)), 14, 5, 0)]);
 }
 
 #[test]
 fn row_14_sets_held() {
     // Override: the largest of first, 1 + second, 2 + third.
     let nested = |open: &str, depth: usize, close: &str| {
-        let expression = open.repeat(depth) + "t" + &close.repeat(depth);
-        refusal(&file(&format!("{MT} E,0,{expression}")))
+        let expression = open.repeat(depth) + "b" + &close.repeat(depth);
+        refusal(&file(&format!("{MB} E,0,{expression}")))
     };
-    assert_eq!(nested("o(", 21, ",t,t)"), None);
-    assert_eq!(nested("o(t,", 12, ",t)"), None);
-    assert_eq!(nested("o(t,", 13, ",t)"), Some((14, 5, 0)));
-    assert_eq!(nested("o(t,t,", 6, ")"), None);
-    assert_eq!(nested("o(t,t,", 7, ")"), Some((14, 5, 0)));
+    assert_eq!(nested("o(", 21, ",b,b)"), None);
+    assert_eq!(nested("o(b,", 12, ",b)"), None);
+    assert_eq!(nested("o(b,", 13, ",b)"), Some((14, 5, 0)));
+    assert_eq!(nested("o(b,b,", 6, ")"), None);
+    assert_eq!(nested("o(b,b,", 7, ")"), Some((14, 5, 0)));
     // Scopes, closures and brackets hold as their operand.
-    assert_eq!(nested("t+(", 13, "^[s=x])"), None);
+    assert_eq!(nested("b+(", 13, "^[s=x])"), None);
     assert_eq!(nested("(", 32, "^[s=x])"), None);
-    assert_eq!(nested("(t+", 31, ")"), Some((14, 5, 0)));
+    assert_eq!(nested("(b+", 31, ")"), Some((14, 5, 0)));
 }
 
 #[test]
 fn row_9_no_expression() {
-    expect(&[(M, 9, 0, 0), (MT, 9, 0, 0), (W, 9, 0, 0)]);
+    expect(&[(M, 9, 0, 0), (MB, 9, 0, 0), (W, 9, 0, 0)]);
 }
 
 #[test]

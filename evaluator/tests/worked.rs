@@ -2,7 +2,7 @@
 
 mod common;
 
-use common::{file, many, refusal, M, MT, W, WA};
+use common::{file, many, refusal, M, MB, W, WA};
 use evaluator::{compose, list};
 
 fn counts(lines: &str, expression: &str) -> [usize; 3] {
@@ -110,19 +110,19 @@ fn override_is_joined_from_minus_and_and() {
 
 #[test]
 fn joins_bind_equally_to_the_left() {
-    let lines = format!("{M} T,t,here T,none,here G,t,x,y,z");
-    // t + (none & none) would permit.
-    assert_eq!(counts(&lines, "0,t+none&none"), [0, 0, 0]);
-    // t - (t + t) would deny.
-    assert_eq!(counts(&lines, "0,t-t+t"), [1, 0, 0]);
-    assert_eq!(counts(&lines, "0,t-(t+t)"), [0, 0, 0]);
+    let lines = format!("{M} T,b,here T,none,here G,b,x,y,z");
+    // b + (none & none) would permit.
+    assert_eq!(counts(&lines, "0,b+none&none"), [0, 0, 0]);
+    // b - (b + b) would deny.
+    assert_eq!(counts(&lines, "0,b-b+b"), [1, 0, 0]);
+    assert_eq!(counts(&lines, "0,b-(b+b)"), [0, 0, 0]);
 }
 
 #[test]
 fn edge_file_length() {
     let padded = |name: &str| {
         let pad = many(4_090, "P,S,p,x");
-        file(&format!("{M} {pad} T,t,here T,{name},here E,0,t"))
+        file(&format!("{M} {pad} T,b,here T,{name},here E,0,b"))
     };
     assert_eq!(padded("seven_7").len(), 32_768);
     assert_eq!(refusal(&padded("seven_7")), None);
@@ -132,7 +132,7 @@ fn edge_file_length() {
 
 #[test]
 fn edge_limit() {
-    let at = |limit| refusal(&file(&format!("{MT} E,{limit},t")));
+    let at = |limit| refusal(&file(&format!("{MB} E,{limit},b")));
     assert_eq!(at("4096"), None);
     assert_eq!(at("4097"), Some((7, 5, 0)));
 }
@@ -144,24 +144,24 @@ fn edge_name_of_25_bytes() {
     assert_eq!(refusal(&file(&format!("S,{long},-"))), Some((3, 1, 0)));
     let accepted = format!("{M} T,{fits},here E,0,{fits}");
     assert_eq!(refusal(&file(&accepted)), None);
-    let refused = format!("{MT} E,0,t+{long}");
+    let refused = format!("{MB} E,0,b+{long}");
     assert_eq!(refusal(&file(&refused)), Some((12, 5, 26)));
 }
 
 #[test]
 fn edge_number_of_accesses() {
     let members = format!("{} {}", many(64, "S,s#,-"), many(64, "O,o#,-"));
-    let one = format!("{members} A,a0,- T,t,here E,0,t");
+    let one = format!("{members} A,a0,- T,b,here E,0,b");
     assert_eq!(evaluator::check(&file(&one)), Ok([64, 64, 1]));
-    let two = format!("{members} A,a0,- A,a1,- T,t,here E,0,t");
+    let two = format!("{members} A,a0,- A,a1,- T,b,here E,0,b");
     assert_eq!(refusal(&file(&two)), Some((8, 131, 0)));
 }
 
 #[test]
 fn edge_sets_held() {
     let nested = |depth: usize| {
-        let expression = "t+(".repeat(depth) + "t" + &")".repeat(depth);
-        refusal(&file(&format!("{MT} E,0,{expression}")))
+        let expression = "b+(".repeat(depth) + "b" + &")".repeat(depth);
+        refusal(&file(&format!("{MB} E,0,{expression}")))
     };
     assert_eq!(nested(13), None);
     assert_eq!(nested(14), Some((14, 5, 0)));

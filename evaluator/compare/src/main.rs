@@ -5,6 +5,7 @@
 //!   compare crowded SEED COUNT          the same on files whose members' names share slots of the index
 //!   compare ruled SEED COUNT            the same on small files with many rules and closures
 //!   compare worst SEED COUNT            the same on files whose closures cost much
+//!   compare templates SEED COUNT        the same on files with templates
 //!   compare edits FILE                  all three on FILE cut at every byte, and with every byte changed
 //!   compare corpus DIR                  all three on every policy of a corpus, with asks.tsv
 //!   compare folder DIR                  all three on every policy of a folder
@@ -12,14 +13,15 @@
 //!   compare listings PROGRAM DIR        the listing program on every policy of a folder
 //!   compare lookups PROGRAM SEED COUNT  the program of lookups on the crowded files
 //!
-//! `run` does all of these. The last line reads 'N passed, M failed'; a difference prints the seed and number that make the file again.
+//! `run` does all of these. Generated files are counted, and how many of them have a template. The last line reads 'N passed, M failed';
+//! a difference prints the seed and number that make the file again.
 
 mod buffers;
 mod calls;
 mod edits;
 mod lookups;
 
-use evaluator::generate::{policy, Kind};
+use evaluator::generate::{has_template, policy, Kind};
 use std::io::Write;
 use std::process::{Command, ExitCode, Stdio};
 
@@ -51,11 +53,13 @@ impl Tally {
 }
 
 fn generated(kind: Kind, seed: u64, count: u64, mut compare: impl FnMut(&[u8]) -> Option<String>) -> Tally {
-    let mut tally = Tally::default();
+    let (mut tally, mut with_template) = (Tally::default(), 0);
     for number in 0..count {
         let file = policy(seed, number, kind);
+        with_template += u64::from(has_template(&file));
         tally.count(|| format!("seed {seed} number {number} ({})", kind.word()), compare(&file));
     }
+    println!("{with_template} of {count} files ({}) have a template", kind.word());
     tally
 }
 
@@ -76,11 +80,30 @@ fn folder(path: &str, compare: impl Fn(&[u8]) -> Option<String>) -> Tally {
     tally
 }
 
+/// The groups of a corpus, each folder of its requests with its own.
+const GROUPS: [(&str, &[&str]); 4] = [
+    (".", &["worked", "readings", "valid", "broken", "big", "heavy"]),
+    ("cr/01", &["readings", "valid", "broken", "big"]),
+    ("cr/02", &["readings", "valid", "broken"]),
+    ("cr/renamed", &["readings", "valid", "broken", "big"]),
+];
+
 fn corpus(path: &str) -> Tally {
     let mut tally = Tally::default();
-    for group in ["worked", "readings", "valid", "broken", "big", "heavy", "cr/02/readings", "cr/02/valid", "cr/02/broken"] {
-        tally.add(folder(&format!("{path}/{group}"), calls::all));
+    for (part, groups) in GROUPS {
+        for group in groups {
+            tally.add(folder(&format!("{path}/{part}/{group}"), calls::all));
+        }
     }
+    for part in [".", "cr/renamed"] {
+        tally.add(asks(&format!("{path}/{part}")));
+    }
+    tally
+}
+
+/// Decide as the lines of asks.tsv have it.
+fn asks(path: &str) -> Tally {
+    let mut tally = Tally::default();
     for line in std::fs::read_to_string(format!("{path}/asks.tsv")).expect("asks.tsv").lines() {
         let fields: Vec<&str> = line.split('\t').collect();
         let file = std::fs::read(format!("{path}/{}.pol", fields[0])).expect("a policy");
@@ -133,6 +156,7 @@ fn main() -> ExitCode {
         Some("crowded") => generated(Kind::Crowded, number(words.get(1)), number(words.get(2)), calls::all),
         Some("ruled") => generated(Kind::Ruled, number(words.get(1)), number(words.get(2)), calls::all),
         Some("worst") => generated(Kind::Worst, number(words.get(1)), number(words.get(2)), calls::all),
+        Some("templates") => generated(Kind::Templates, number(words.get(1)), number(words.get(2)), calls::all),
         Some("edits") => edits::all(&std::fs::read(&words[1]).expect("a policy")),
         Some("corpus") => corpus(&words[1]),
         Some("folder") => folder(&words[1], calls::all),
@@ -140,7 +164,7 @@ fn main() -> ExitCode {
         Some("listings") => folder(&words[2], |file| listing(&words[1], file)),
         Some("lookups") => lookups::all(&words[1], number(words.get(2)), number(words.get(3))),
         _ => {
-            eprintln!("compare check|calls|crowded|ruled|worst SEED COUNT | edits FILE | corpus|folder DIR");
+            eprintln!("compare check|calls|crowded|ruled|worst|templates SEED COUNT | edits FILE | corpus|folder DIR");
             eprintln!("compare list|lookups PROGRAM SEED COUNT | listings PROGRAM DIR");
             return ExitCode::FAILURE;
         }

@@ -52,6 +52,8 @@ fn build(random: &mut Random, crowd: Crowd) -> Draft {
             operators: random.choose(&[2, 6, 12]),
             sets: 3,
             brackets: 2,
+            bindings: 2,
+            template_first: false,
         },
     };
     let limit = sound::limit(random);

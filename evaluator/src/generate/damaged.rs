@@ -25,7 +25,7 @@ enum Fault {
 
 use Fault::{File, Lines};
 
-const FAULTS: [Fault; 50] = [
+const FAULTS: [Fault; 59] = [
     Lines(swap_lines),
     Lines(duplicate_line),
     Lines(delete_line),
@@ -63,6 +63,15 @@ const FAULTS: [Fault; 50] = [
     Lines(too_many_sets),
     Lines(too_many_operators),
     Lines(too_many_operators),
+    Lines(odd_template),
+    Lines(odd_template),
+    Lines(odd_template),
+    Lines(t_in_expression),
+    Lines(t_as_a_name),
+    Lines(unbound_name),
+    Lines(too_many_bindings),
+    Lines(too_many_bindings),
+    Lines(too_many_bindings),
     Lines(empty_expression),
     Lines(no_expression),
     Lines(no_expression),
@@ -232,12 +241,13 @@ fn move_line(damage: &mut Damage) {
     damage.lines.insert(to, line);
 }
 
-const ODD_FIELDS: [&str; 20] = [
+const ODD_FIELDS: [&str; 21] = [
     "",
     "-",
     "s",
     "o",
     "a",
+    "t",
     "S",
     "?0",
     "?3",
@@ -347,7 +357,7 @@ fn empty_sort(damage: &mut Damage) {
     let word = damage.random.choose(b"SOA");
     damage.lines.retain(|line| line.first() != Some(&word));
     if damage.lines.is_empty() {
-        damage.lines.push(b"E,0,t".to_vec());
+        damage.lines.push(b"E,0,b".to_vec());
     }
 }
 
@@ -475,7 +485,7 @@ fn odd_limit(damage: &mut Damage) {
     }
 }
 
-const EXPRESSION_BYTES: &[u8] = b"abosz09_(),[]^*+&-<>=?. \r";
+const EXPRESSION_BYTES: &[u8] = b"abostz09_(),[]^*+&-<>=?:. \r";
 
 fn expression_byte(damage: &mut Damage) {
     let Some((_, _, mut expression)) = damage.expression() else {
@@ -508,9 +518,10 @@ fn deep_brackets(damage: &mut Damage) {
     };
     for _ in 0..damage.random.between(30, 34) {
         let table = damage.table();
-        let around = match damage.random.percent(10) {
-            true => (format!("o({table},{table},"), ")"),
-            false => ("(".to_string(), ")"),
+        let around = match damage.random.below(20) {
+            0 | 1 => (format!("o({table},{table},"), ")"),
+            2 => ("(t:x.x)(".to_string(), ")"),
+            _ => ("(".to_string(), ")"),
         };
         expression = [around.0.as_bytes(), &expression, around.1.as_bytes()].concat();
     }
@@ -526,14 +537,15 @@ fn undeclared_in_expression(damage: &mut Damage) {
     damage.replace_name("nobody");
 }
 
-/// A name that is declared, but perhaps as another kind, or a sort's letter.
+/// A name that is declared, but perhaps as another kind, or a letter that is
+/// none alone.
 fn other_name_in_expression(damage: &mut Damage) {
     let draft = &damage.draft;
     let mut names: Vec<String> = draft.members.concat();
     names.extend(draft.rule_sets.iter().cloned());
     names.extend(draft.tables.iter().map(|table| table.0.clone()));
     names.extend(draft.predicates.iter().map(|predicate| predicate.1.clone()));
-    names.extend(["s", "o", "a"].map(str::to_string));
+    names.extend(["s", "o", "a", "t"].map(str::to_string));
     let name: &str = damage.random.pick(&names);
     damage.replace_name(name);
 }
@@ -559,6 +571,128 @@ fn too_many_operators(damage: &mut Damage) {
     };
     let expression = table + &operator.repeat(more);
     damage.set_expression(expression.as_bytes());
+}
+
+/// Templates with a byte too few, too many or wrong, `b` standing for a table.
+const ODD_TEMPLATES: [&str; 40] = [
+    "(t",
+    "(t:",
+    "(t:x",
+    "(t:x.",
+    "(t:x.x",
+    "(t:x.x)",
+    "(t:x.x)(",
+    "(t:x.x)(b",
+    "(t)",
+    "(t)(b)",
+    "(tx.x)(b)",
+    "(t:x)(b)",
+    "(t:xx)(b)",
+    "(t:x,x)(b)",
+    "(t:x:x)(b)",
+    "(t.x:x)(b)",
+    "(t:.x)(b)",
+    "(t:x.)(b)",
+    "(t:x..x)(b)",
+    "(t:x.x)()",
+    "(t:x.x)b",
+    "(t:x.x)+(b)",
+    "(t:x.x)^[s=x](b)",
+    "((t:x.x))(b)",
+    "(t:x.x)((b)",
+    "(t:x.x)(b))",
+    "(t:x.x)(b)(b)",
+    "(t:x.x)(t:x.x)(b)",
+    "(t:x.t:y.x)(b)",
+    "(t:x.x,b)(b)",
+    "(t:x.x)(b,b)",
+    "(T:x.x)(b)",
+    "(t:X.b)(b)",
+    "(t:1.b)(b)",
+    "(t:s.b)(b)",
+    "(t:t.b)(b)",
+    "(t:nnnnnnnnnnnnnnnnnnnnnnnnn.b)(b)",
+    "t:x.x",
+    "o(t:x.x)(b)",
+    "x.x)(b)",
+];
+
+/// Such a template before, behind or around the expression, or alone.
+fn odd_template(damage: &mut Damage) {
+    let Some((_, _, old)) = damage.expression() else {
+        return;
+    };
+    let table = damage.table();
+    let odd = damage.random.choose(&ODD_TEMPLATES).replace('b', &table);
+    let (odd, join) = (odd.as_bytes(), damage.random.choose(b"+&-"));
+    let new = match damage.random.below(4) {
+        0 => odd.to_vec(),
+        1 => [odd, &[join], &old[..]].concat(),
+        2 => [&old[..], &[join], odd].concat(),
+        _ => [b"(t:x.", &old[..], &[join], odd, b")(", table.as_bytes(), b")"].concat(),
+    };
+    damage.set_expression(&new);
+}
+
+fn t_in_expression(damage: &mut Damage) {
+    damage.replace_name("t");
+}
+
+/// A member, table, predicate or rule set is `t`, on every line that names it.
+fn t_as_a_name(damage: &mut Damage) {
+    let Some(line) = damage.line_of(b"SOAPTR") else {
+        return;
+    };
+    let at = if damage.lines[line][0] == b'P' { 2 } else { 1 };
+    let Some(name) = damage.fields(line).get(at).cloned() else {
+        return;
+    };
+    for line in 0..damage.lines.len() {
+        let mut fields = damage.fields(line);
+        for field in fields.iter_mut().skip(1).filter(|field| **field == name) {
+            *field = b"t".to_vec();
+        }
+        damage.set_fields(line, &fields);
+    }
+}
+
+/// Names that a template does not declare where they stand, `b` standing for a
+/// table and `nobody` for no name of the file.
+const UNBOUND: [&str; 9] = [
+    "(t:nobody.nobody)(nobody)",
+    "(t:nobody.nobody)(b)+nobody",
+    "nobody-(t:nobody.nobody)(b)",
+    "(t:x.nobody)(nobody2)",
+    "(t:x.b)(nobody)",
+    "(t:x.(t:nobody.nobody)(nobody))(b)",
+    "(t:nobody.nobody*nobody)(b)",
+    "(t:nobody.b^[s=nobody])(b)",
+    "(t:nobody.b^[nobody(s)])(b)",
+];
+
+fn unbound_name(damage: &mut Damage) {
+    let table = damage.table();
+    // The table's name is put in last, as it may have any letters.
+    let parts: Vec<&str> = damage.random.choose(&UNBOUND).split("nobody").collect();
+    let parts: Vec<String> = parts.iter().map(|part| part.replace('b', &table)).collect();
+    damage.set_expression(parts.join("nobody").as_bytes());
+}
+
+/// Five to fourteen templates, each in the E of the one before, around a table
+/// or the expression.
+fn too_many_bindings(damage: &mut Damage) {
+    let Some((_, _, old)) = damage.expression() else {
+        return;
+    };
+    let mut text = match damage.random.percent(30) {
+        true => String::from_utf8_lossy(&old).into_owned(),
+        false => damage.table(),
+    };
+    for _ in 0..damage.random.choose(&[5, 5, 5, 6, 8, 12, 13, 14]) {
+        let (name, table) = (damage.random.choose(&["x", "y", "z1"]), damage.table());
+        text = format!("(t:{name}.{text})({table})");
+    }
+    damage.set_expression(text.as_bytes());
 }
 
 fn empty_expression(damage: &mut Damage) {
@@ -598,7 +732,7 @@ fn not_ascii(damage: &mut Damage) {
     damage.lines[line].insert(at, byte);
 }
 
-const FILE_BYTES: &[u8] = b"\n\n,,-?SOAPTGRBEabosz059_()[]^*+&<>= \t\r\0\x7f\x80\xc3\xff";
+const FILE_BYTES: &[u8] = b"\n\n,,-?SOAPTGRBEabostz059_()[]^*+&<>=:. \t\r\0\x7f\x80\xc3\xff";
 
 fn flip_bit(random: &mut Random, file: &mut Vec<u8>) {
     let at = random.below(file.len());

@@ -3,6 +3,8 @@
 use super::expression::{postfix, Bounds};
 use super::random::Random;
 use super::sound::{self, Draft, Plan, SORT_WORDS};
+use super::templates;
+use crate::expression::{MOST_BINDINGS, MOST_OPEN_BRACKETS, MOST_OPERATORS, MOST_SETS_HELD};
 use crate::policy::*;
 use crate::reader::MOST_FILE_BYTES;
 
@@ -50,16 +52,19 @@ fn full_house(random: &mut Random) -> Draft {
         short_names: random.percent(80),
         crowd: None,
         bounds: Bounds {
-            operators: 64,
-            sets: 14,
-            brackets: 32,
+            operators: MOST_OPERATORS,
+            sets: MOST_SETS_HELD,
+            brackets: MOST_OPEN_BRACKETS,
+            bindings: MOST_BINDINGS,
+            template_first: random.percent(50),
         },
     };
     let limit = sound::limit(random);
     sound::build(random, &plan, limit)
 }
 
-fn small(random: &mut Random) -> Draft {
+/// A small file with every kind of line.
+pub fn small(random: &mut Random) -> Draft {
     let plan = Plan {
         counts: [
             random.between(2, 8),
@@ -79,6 +84,8 @@ fn small(random: &mut Random) -> Draft {
             operators: 10,
             sets: 5,
             brackets: 3,
+            bindings: 2,
+            template_first: random.percent(50),
         },
     };
     let limit = sound::limit(random);
@@ -155,6 +162,9 @@ fn zigzag(random: &mut Random, turn: u64) -> Draft {
         "start*step^[o<=v0]",
         "o(start*step,start,start*step)",
         "start-start*step",
+        "(t:x.x)(start*step)",
+        "(t:x.x*step-x)(start*step)",
+        "(t:start.start*step)(start^[s=u0])+start",
     ]);
     draft.finish(limit, expression);
     draft
@@ -205,8 +215,12 @@ pub fn zigzag_rules(names: &[Vec<String>; 3], sorts: &[usize], rules: &mut Vec<V
     }
 }
 
-/// The expression's size exactly at its edge or one past it.
+/// The expression's size exactly at its edge or one past it; half of them have
+/// templates.
 fn expression_edge(random: &mut Random) -> Draft {
+    if random.percent(50) {
+        return templates::edge(random);
+    }
     let mut draft = small(random);
     draft.lines.pop();
     let table = draft.tables[random.below(draft.tables.len())].0.clone();
@@ -249,10 +263,11 @@ fn long_expression(random: &mut Random) -> Draft {
     let room = MOST_FILE_BYTES - draft.bytes() - 32;
     let mut expression = table.clone();
     loop {
-        let more = match random.below(4) {
+        let more = match random.below(5) {
             0 => postfix(random, &draft),
             1 => format!("+({table})"),
             2 => format!("-o({table},{table},{table})"),
+            3 => format!("+(t:x.x-{table})({table})"),
             _ => format!("&{table}"),
         };
         if expression.len() + more.len() > room {
@@ -266,7 +281,8 @@ fn long_expression(random: &mut Random) -> Draft {
 }
 
 /// As many closures as there can be that each start from a table: 43 closures
-/// and 21 overrides are 64 operators.
+/// and 21 overrides are 64 operators. Half of them have two closures less and
+/// stand as the F of a template.
 fn many_closures(random: &mut Random) -> Draft {
     let mut draft = small(random);
     draft.lines.pop();
@@ -276,9 +292,13 @@ fn many_closures(random: &mut Random) -> Draft {
         format!("{}*{rule_set}", draft.tables[table].0)
     };
     let mut expression = closed(random, &draft);
-    for _ in 0..21 {
+    let bound = random.percent(50);
+    for _ in 0..if bound { 20 } else { 21 } {
         let (second, third) = (closed(random, &draft), closed(random, &draft));
         expression = format!("o({expression},{second},{third})");
+    }
+    if bound {
+        expression = format!("(t:x.x-x)({expression})");
     }
     let limit = sound::limit(random);
     draft.finish(limit, &expression);
@@ -327,6 +347,9 @@ fn hierarchies(random: &mut Random) -> Draft {
         "start*down-start",
         "start*down^[o<=v3]*down",
         "o(start*down,later,start*down^[a=w0])",
+        "(t:later.start+later)(start*down)",
+        "(t:x.x^[s<=u1]-(t:y.y&x)(later))(start*down)",
+        "(t:x.(x+start)*down-x)(start*down^[o<=v3])",
     ]);
     draft.finish(random.choose(&[0, 1, 2, 3, 4_096]), expression);
     draft
@@ -350,6 +373,8 @@ fn dense_rules(random: &mut Random) -> Draft {
             operators: 3,
             sets: 3,
             brackets: 1,
+            bindings: 1,
+            template_first: random.percent(30),
         },
     };
     let limit = sound::limit(random);

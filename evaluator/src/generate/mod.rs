@@ -9,6 +9,7 @@ mod large;
 pub mod random;
 mod ruled;
 mod sound;
+mod templates;
 mod worst;
 
 use random::Random;
@@ -29,10 +30,12 @@ pub enum Kind {
     Ruled,
     /// Accepted files whose closures cost much.
     Worst,
+    /// Files with a template: three of four accepted, the others at the limits.
+    Templates,
 }
 
 impl Kind {
-    pub const ALL: [Kind; 7] = [
+    pub const ALL: [Kind; 8] = [
         Kind::Sound,
         Kind::Damaged,
         Kind::Large,
@@ -40,6 +43,7 @@ impl Kind {
         Kind::Crowded,
         Kind::Ruled,
         Kind::Worst,
+        Kind::Templates,
     ];
 
     pub fn word(self) -> &'static str {
@@ -51,6 +55,7 @@ impl Kind {
             Kind::Crowded => "crowded",
             Kind::Ruled => "ruled",
             Kind::Worst => "worst",
+            Kind::Templates => "templates",
         }
     }
 }
@@ -65,10 +70,17 @@ pub fn policy(seed: u64, number: u64, kind: Kind) -> Vec<u8> {
         Kind::Crowded => crowded::policy(random, number),
         Kind::Ruled => ruled::policy(random).file(),
         Kind::Worst => worst::policy(random, number),
+        Kind::Templates => templates::policy(random, number).file(),
         Kind::Mixed => match number % 8 {
             0..=3 => sound::policy(random).file(),
             4..=6 => damaged::policy(random, number),
             _ => large::policy(random, number / 8),
         },
     }
+}
+
+/// Whether a template begins somewhere in a file. No line but E's has these
+/// bytes, unless it is damaged.
+pub fn has_template(file: &[u8]) -> bool {
+    file.windows(3).any(|bytes| bytes == b"(t:")
 }

@@ -37,6 +37,8 @@ fn plan(random: &mut Random) -> Plan {
             operators: 0,
             sets: 1,
             brackets: 0,
+            bindings: 0,
+            template_first: false,
         },
     }
 }
@@ -46,8 +48,14 @@ fn closures(random: &mut Random, draft: &Draft) -> String {
     let mut text = closed(random, draft);
     for _ in 0..random.between(1, 7) {
         let more = closed(random, draft);
-        text = match random.below(6) {
+        text = match random.below(8) {
             0 => format!("o({text},{more},{})", closed(random, draft)),
+            3 => bound(random, draft, &text),
+            4 => format!(
+                "{more}{}{}",
+                random.choose(&JOINS),
+                bound(random, draft, &text)
+            ),
             1 => format!("{more}{}({text})", random.choose(&JOINS)),
             2 => format!(
                 "({text}{}{more}){}",
@@ -69,4 +77,11 @@ fn closed(random: &mut Random, draft: &Draft) -> String {
     };
     let rule_set: &str = random.pick(&draft.rule_sets);
     format!("{table}{before}*{rule_set}")
+}
+
+/// A template that uses x twice, once in a closure.
+fn bound(random: &mut Random, draft: &Draft, f: &str) -> String {
+    let rule_set: &str = random.pick(&draft.rule_sets);
+    let (join, postfix) = (random.choose(&JOINS), postfix(random, draft));
+    format!("(t:x.x*{rule_set}{join}x{postfix})({f})")
 }

@@ -2,6 +2,7 @@
 
 use super::expression::{self, Bounds};
 use super::random::Random;
+use crate::expression::MOST_BINDINGS;
 use crate::policy::{MOST_LIMIT, MOST_NAME_BYTES};
 use crate::reader::{is_name, MOST_FILE_BYTES};
 
@@ -48,7 +49,7 @@ pub const ORDER_WORDS: [&str; 5] = ["le", "ge", "lt", "gt", "eq"];
 
 /// Names that mean something elsewhere in a file, or come close to it.
 const WORDS: [&str; 16] = [
-    "here", "away", "grant", "has", "le", "ge", "lt", "gt", "eq", "t", "ss", "oo", "aa", "o1",
+    "here", "away", "grant", "has", "le", "ge", "lt", "gt", "eq", "tt", "ss", "oo", "aa", "o1",
     "a_", "s0",
 ];
 
@@ -90,7 +91,7 @@ pub fn policy(random: &mut Random) -> Draft {
     build(random, &plan, limit)
 }
 
-fn plan(random: &mut Random) -> Plan {
+pub fn plan(random: &mut Random) -> Plan {
     let counts = counts(random);
     let rules = random.choose(&[0, 1, 2, 3, 4, 6, 8, 10, 14, 20]);
     Plan {
@@ -108,6 +109,8 @@ fn plan(random: &mut Random) -> Plan {
             operators: random.choose(&[0, 2, 4, 6, 8, 10, 12, 20, 40, 64]),
             sets: random.choose(&[1, 2, 3, 4, 5, 8, 14]),
             brackets: random.choose(&[0, 1, 2, 3, 5, 8, 32]),
+            bindings: MOST_BINDINGS,
+            template_first: random.percent(60),
         },
     }
 }

@@ -156,13 +156,13 @@ impl Ground {
 
     /// The table, with the first access.
     fn start(&mut self) {
-        self.add("T,t,here".to_string());
+        self.add("T,b,here".to_string());
         self.grant([0, 0, 0]);
     }
 
     fn grant(&mut self, access: [usize; 3]) {
         let [s, o, a] = [0, 1, 2].map(|sort| member(sort, access[sort]));
-        self.add(format!("G,t,{s},{o},{a}"));
+        self.add(format!("G,b,{s},{o},{a}"));
     }
 
     /// The isle's members of the two longest sorts.
@@ -382,7 +382,7 @@ fn expression(random: &mut Random, sets: &[String], few_rounds: bool) -> String 
         set => format!("*{STEP}*{set}"),
     };
     let each = closed(0).matches('*').count();
-    let mut text = format!("t{}", closed(0));
+    let mut text = format!("b{}", closed(0));
     match random.below(10) {
         0 => {}
         1 => {
@@ -397,7 +397,7 @@ fn expression(random: &mut Random, sets: &[String], few_rounds: bool) -> String 
         }
         _ => {
             for turn in 1..=(MOST_OPERATORS - each) / (2 * each + 1) {
-                text = format!("o({text},t{},t{})", closed(2 * turn), closed(2 * turn + 1));
+                text = format!("o({text},b{},b{})", closed(2 * turn), closed(2 * turn + 1));
             }
         }
     }

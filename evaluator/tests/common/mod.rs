@@ -1,6 +1,8 @@
 //! What the tests share.
 #![allow(dead_code)]
 
+pub mod tree;
+
 use evaluator::policy::{Policy, Sort};
 use evaluator::Refusal;
 
@@ -16,7 +18,7 @@ pub fn file(lines: &str) -> Vec<u8> {
 /// One member of each sort.
 pub const M: &str = "S,x,- O,y,- A,z,-";
 /// And one table.
-pub const MT: &str = "S,x,- O,y,- A,z,- T,t,here";
+pub const MB: &str = "S,x,- O,y,- A,z,- T,b,here";
 /// The worked file's lines before E.
 pub const W: &str = "S,staff,- S,ann,staff O,week,- O,mon,week A,read,- T,forms,here \
     G,forms,staff,week,read R,down,?0,?1,?2 B,grant,?3,?1,?2 B,le,S,?0,?3";
