@@ -44,7 +44,8 @@ fn chosen(words: &[String]) -> Vec<String> {
     }
     let corpus = concat!(env!("CARGO_MANIFEST_DIR"), "/../evaluator/corpus");
     let mut paths = Vec::new();
-    for group in ["heavy", "big"] {
+    // The last has those of `big` that are refused as they stand, with another letter for a name that is none.
+    for group in ["heavy", "big", "cr/renamed/big"] {
         let folder = std::fs::read_dir(format!("{corpus}/{group}")).expect("a folder of the corpus");
         let mut files: Vec<String> = folder.map(|entry| entry.expect("an entry").path().display().to_string()).collect();
         files.retain(|path| path.ends_with(".pol"));

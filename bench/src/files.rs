@@ -1,4 +1,4 @@
-//! Files made for the benchmark, each with as many G lines as fit in 32,768 bytes.
+//! Files made for the benchmark: as many G lines as fit in 32,768 bytes, as many rules and names as there may be, and templates.
 
 use evaluator::index::slot;
 use evaluator::reader::MOST_FILE_BYTES;
@@ -11,12 +11,12 @@ fn grants(subjects: &[String], objects: &[String]) -> Vec<u8> {
             file.extend(format!("{kind},{name},-\n").bytes());
         }
     }
-    file.extend(b"A,r,-\nT,t,here\n");
-    let end = b"E,0,t\n";
+    file.extend(b"A,r,-\nT,b,here\n");
+    let end = b"E,0,b\n";
     let mut turn = 0;
     loop {
         let (subject, object) = (turn / objects.len() % subjects.len(), turn % objects.len());
-        let line = format!("G,t,{},{},r\n", subjects[subject], objects[object]);
+        let line = format!("G,b,{},{},r\n", subjects[subject], objects[object]);
         if file.len() + line.len() + end.len() > MOST_FILE_BYTES {
             break;
         }
@@ -60,6 +60,32 @@ fn small(patterns: &[(usize, &str)]) -> Vec<u8> {
     (file + "E,0,t0\n").into_bytes()
 }
 
+/// 64 subjects, 64 objects and one action; the table `b` has all of `u0`, and the rules of `next` pass a subject's accesses to the
+/// one after it, in 63 rounds.
+fn in_line(expression: &str) -> Vec<u8> {
+    let lines = |count: usize, line: &dyn Fn(usize) -> String| (0..count).map(line).collect::<String>();
+    let mut file = lines(64, &|n| format!("S,u{n},-\n"));
+    file += &lines(64, &|n| format!("O,v{n},-\n"));
+    file += "A,z,-\nT,b,here\nT,w,away\n";
+    file += &lines(64, &|n| format!("G,b,u0,v{n},z\n"));
+    file += &lines(63, &|n| format!("R,next,u{},?0,z\nB,grant,u{n},?0,z\n", n + 1));
+    let file = (file + &format!("E,4096,{expression}\n")).into_bytes();
+    assert_eq!(evaluator::check(&file), Ok([64, 64, 1]), "{expression}");
+    file
+}
+
+/// A text so many times, with joins between.
+fn joined(text: &str, times: usize) -> String {
+    let more = |n: usize| ["+", "&", "-"][n % 3].to_string() + text;
+    text.to_string() + &(1..times).map(more).collect::<String>()
+}
+
+/// Four bindings in force, each used fourteen times and in the next one's F: 61 operators.
+fn four_bindings() -> String {
+    let uses: String = (0..13).map(|n| format!("{0}x0{0}x1{0}x2{0}x3", ["+", "&", "-"][n % 3])).collect();
+    format!("(t:x0.(t:x1.(t:x2.(t:x3.x0+x1&x2-x3{uses})(x2))(x1-w))(x0&b))(b)")
+}
+
 /// The rows' names and files.
 pub fn made() -> Vec<(String, Vec<u8>)> {
     let few = |letter: &str| numbered(16, |n| format!("{letter}{n}"));
@@ -82,5 +108,8 @@ pub fn made() -> Vec<(String, Vec<u8>)> {
         one("64 rules of four lines", &[table, (64, &rule)]),
         one("64 rules without a body", &[table, (64, head)]),
         one("16 predicates, tables and rule sets", &[(16, "P,S,p#,x\n"), (16, "T,t#,here\n"), (16, "R,r#,?0,?1,?2\n")]),
+        ("64 × 64, four bindings, each used 14 times".to_string(), in_line(&four_bindings())),
+        ("64 × 64, a closure in a template, used 30 times".to_string(), in_line(&format!("(t:x.{})(b*next)", joined("x", 30)))),
+        ("64 × 64, the same written out".to_string(), in_line(&joined("b*next", 30))),
     ]
 }

@@ -6,7 +6,7 @@
 
 use std::process::ExitCode;
 
-/// Document 01's refusals in plain words.
+/// The refusals of documents 01 and 02 in plain words.
 fn in_words(number: usize) -> &'static str {
     match number {
         1 => "a buffer is too short",
@@ -23,6 +23,7 @@ fn in_words(number: usize) -> &'static str {
         12 => "the expression goes wrong at the place marked",
         13 => "the name at the place marked is not declared",
         14 => "the expression is too large",
+        16 => "more than four templates stand one in the first brackets of the other",
         _ => "a name that was asked for is not declared",
     }
 }

@@ -1,5 +1,5 @@
-//! Document 01's worked file through the wrapper: K1, refusals and short buffers; and the calls of snowdell.h with too little room
-//! for their numbers.
+//! Document 01's worked file through the wrapper: K1, refusals and short buffers; templates and number 16; and the calls of
+//! snowdell.h with too little room for their numbers.
 
 use snowdell::{check, compose, decide, Refusal, MEMORY, RESULT};
 
@@ -19,6 +19,8 @@ extern "C" {
 
 const K1: &[u8] = include_bytes!("../../evaluator/corpus/worked/k01.pol");
 const K11: &[u8] = include_bytes!("../../evaluator/corpus/worked/k11.pol");
+const TEMPLATE: &[u8] = include_bytes!("../../evaluator/corpus/cr/01/readings/1.12a.pol");
+const FIVE_BINDINGS: &[u8] = include_bytes!("../../evaluator/corpus/cr/01/readings/1.10b.pol");
 const ACCEPTED: Refusal = refusal(0, 0, 0);
 
 const fn refusal(number: usize, line: usize, place: usize) -> Refusal {
@@ -50,6 +52,69 @@ fn a_refusal_leaves_the_result() {
     assert_eq!((said.refusal, said.accesses), (refusal(12, 11, 6), 0));
     assert_eq!(result, [9; RESULT]);
     assert!(memory.iter().all(|b| *b == 0));
+}
+
+/// Bytes before and behind what is lent.
+const GUARD: usize = 64;
+
+/// A buffer of nines between guards, of which the middle is lent.
+struct Guarded(Vec<u8>);
+
+impl Guarded {
+    fn of(len: usize) -> Guarded {
+        Guarded(vec![9; len + 2 * GUARD])
+    }
+
+    fn lent(&mut self) -> &mut [u8] {
+        let end = self.0.len() - GUARD;
+        &mut self.0[GUARD..end]
+    }
+
+    /// Whether the lent bytes begin with these, and all others are as they were.
+    fn has_only(&self, bytes: &[u8]) -> bool {
+        let (before, lent) = self.0.split_at(GUARD);
+        lent.starts_with(bytes) && before.iter().chain(&lent[bytes.len()..]).all(|b| *b == 9)
+    }
+}
+
+#[test]
+fn a_template_is_composed_once() {
+    let (mut result, mut memory) = (Guarded::of(RESULT), Guarded::of(MEMORY + 1));
+    let said = compose(TEMPLATE, result.lent(), memory.lent());
+    assert_eq!((said.refusal, said.accesses, said.permits, said.undecided, said.rounds), (ACCEPTED, 4, 2, 0, 1));
+    assert!(result.has_only(&[2, 0, 2, 0]));
+    assert!(memory.has_only(&[0; MEMORY]));
+    let said = decide(TEMPLATE, b"ann", b"week", b"read", memory.lent());
+    assert_eq!((said.refusal, said.answer, said.rounds), (ACCEPTED, 2, 1));
+}
+
+#[test]
+fn a_fifth_binding_gives_16_and_leaves_the_result() {
+    let fifth = refusal(16, 5, 0);
+    let said = check(FIVE_BINDINGS);
+    assert_eq!((said.refusal, said.subjects, said.objects, said.actions), (fifth, 0, 0, 0));
+    let (mut result, mut memory) = (Guarded::of(RESULT), Guarded::of(MEMORY + 1));
+    let said = compose(FIVE_BINDINGS, result.lent(), memory.lent());
+    assert_eq!((said.refusal, said.accesses, said.permits, said.undecided, said.rounds), (fifth, 0, 0, 0, 0));
+    assert!(result.has_only(&[]));
+    assert!(memory.has_only(&[0; MEMORY]));
+    // Before 15, and after 1.
+    let mut memory = Guarded::of(MEMORY + 1);
+    let said = decide(FIVE_BINDINGS, b"nobody", b"y", b"z", memory.lent());
+    assert_eq!((said.refusal, said.answer, said.rounds), (fifth, 0, 0));
+    assert!(memory.has_only(&[0; MEMORY]));
+    let mut memory = Guarded::of(MEMORY - 1);
+    assert_eq!(compose(FIVE_BINDINGS, result.lent(), memory.lent()).refusal, refusal(1, 0, 0));
+    assert!(result.has_only(&[]) && memory.has_only(&[]));
+}
+
+#[test]
+fn t_alone_is_no_name() {
+    let mut memory = Guarded::of(MEMORY);
+    let file = b"S,x,-\nO,y,-\nA,z,-\nT,t,here\nE,0,t\n";
+    assert_eq!(check(file).refusal, refusal(3, 4, 0));
+    assert_eq!(decide(file, b"x", b"y", b"z", memory.lent()).refusal, refusal(3, 4, 0));
+    assert!(memory.has_only(&[0; MEMORY]));
 }
 
 #[test]

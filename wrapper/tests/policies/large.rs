@@ -136,7 +136,7 @@ fn senseless() -> Vec<Case> {
         cases.push(case(format!("byte {byte} over and over"), file, Known::Refused(3, 1, 0)));
     }
     let bytes: Vec<u8> = (0..=255).collect();
-    for (name, alphabet) in [("bytes", &bytes[..]), ("signs", b"SOAPTGRBE,-?0123^[]<=>+&*o(),abx_\n")] {
+    for (name, alphabet) in [("bytes", &bytes[..]), ("signs", b"SOAPTGRBE,-?0123^[]<=>+&*o(t:.),abx_\n")] {
         for number in 0..20 {
             let random = &mut Random::new(7, 0, number);
             let mut file: Vec<u8> = (1..MOST_BYTES).map(|_| random.choose(alphabet)).collect();
