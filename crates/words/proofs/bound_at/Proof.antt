@@ -25,7 +25,10 @@ mul-is-same : tie.Need-mul-is-same Inv-loop μ-loop
 mul-is-same c = search needs
 
 shared-slice-read-is-same : tie.Need-shared-slice-read-is-same Inv-loop μ-loop
-shared-slice-read-is-same c = omega (arith, c .before .before .before .before .before .before .pre .0 .in-starts, c .before .loop-test .taken)
+shared-slice-read-is-same c =
+    let test = c .before .loop-test in
+    let start = c .before .before .before .before .before .before in
+    omega (arith, start .pre .0 .in-starts, test .taken)
 
 cast-is-same : tie.Need-cast-is-same Inv-loop μ-loop
 cast-is-same c = omega (arith, c .shared-slice-known4 .given (c .before .before .loop .i))
@@ -34,13 +37,19 @@ mul-is-same-2 : tie.Need-mul-is-same-2 Inv-loop μ-loop
 mul-is-same-2 c = search needs
 
 shared-slice-read-is-same-2 : tie.Need-shared-slice-read-is-same-2 Inv-loop μ-loop
-shared-slice-read-is-same-2 c = omega (arith, c .before .before .before .before .before .before .before .pre .0 .in-ends, c .before .before .loop-test .taken)
+shared-slice-read-is-same-2 c =
+    let test = c .before .before .loop-test in
+    let start = c .before .before .before .before .before .before .before in
+    omega (arith, start .pre .0 .in-ends, test .taken)
 
 cast-is-same-2 : tie.Need-cast-is-same-2 Inv-loop μ-loop
 cast-is-same-2 c = omega (arith, c .shared-slice-known5 .given (c .before .before .before .loop .i))
 
 is-same-requires : tie.Need-is-same-requires Inv-loop μ-loop
-is-same-requires c κs = (c .before .before .before .before .before .before .before .pre .1, c .before .before .before .before .before .before .before .pre .2, c .before .before .before .before .before .before .before .pre .0 .ordered _ (omega (arith, c .before .before .loop-test .taken)) (omega arith), c .before .before .before .before .before .before .before .pre .0 .in-file _ (omega (arith, c .before .before .loop-test .taken)) (omega arith))
+is-same-requires c κs =
+    let test = c .before .before .loop-test in
+    let pre = c .before .before .before .before .before .before .before .pre in
+    (pre .1, pre .2, pre .0 .ordered _ (omega (arith, test .taken)) (omega arith), pre .0 .in-file _ (omega (arith, test .taken)) (omega arith))
 
 returns : tie.Need-returns Inv-loop μ-loop
 returns c = search-found _ _ _ _ (c .before .before .before .before .before .loop .inv) (search needs) (sym (c .before .is-same .ensures) ∙ c .if1 .taken)
