@@ -1,0 +1,8 @@
+//! `snowdell test`.
+
+use crate::shell::{Shell, Status, Stop};
+use std::ffi::OsString;
+
+pub fn run(_arguments: &[OsString], _shell: &mut Shell) -> Result<Status, Stop> {
+    Err(Stop::Failed("test is not there yet".into()))
+}
