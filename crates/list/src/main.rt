@@ -28,7 +28,7 @@ fn refused(out: &mut [u8; 4096], r: Composed) {
 
 // The first line: N, permits, undecided and rounds.
 fn grants(out: &mut [u8; 4096], r: Composed) -> usize
-    ensures { λ r. ⌜ r ≤ 4096 ⌝ }
+    ensures { λ r. ⌜ r ≤ 4097 ⌝ }
 {
     let mut n = word(out, 0, b"grants");
     n = number(out, n, r.accesses as u64);
@@ -68,8 +68,8 @@ fn access(
     answer: u8,
     x: usize,
 ) -> usize
-    requires { ⌜ at ≤ 4096 ⌝ }
-    ensures { λ r. ⌜ r ≤ 4096 ⌝ }
+    requires { ⌜ at ≤ 4097 ⌝ }
+    ensures { λ r. ⌜ r ≤ 4097 ⌝ }
 {
     if answer == 0 {
         return at;
@@ -96,8 +96,8 @@ fn access(
 }
 
 fn answered(out: &mut [u8; 4096], at: usize, answer: u8) -> usize
-    requires { ⌜ at ≤ 4096 ⌝ }
-    ensures { λ r. ⌜ r ≤ 4096 ⌝ }
+    requires { ⌜ at ≤ 4097 ⌝ }
+    ensures { λ r. ⌜ r ≤ 4097 ⌝ }
 {
     if answer == 2 {
         return word(out, at, b"permit");
@@ -107,8 +107,8 @@ fn answered(out: &mut [u8; 4096], at: usize, answer: u8) -> usize
 
 // The lines of the accesses in byte order. The result's bytes from N on are 0, as they were lent.
 fn accesses(out: &mut [u8; 4096], at: usize, f: &[u8], result: &[u8; 4096]) -> usize
-    requires { ⌜ at ≤ 4096 ⌝ }
-    ensures { λ r. ⌜ r ≤ 4096 ⌝ }
+    requires { ⌜ at ≤ 4097 ⌝ }
+    ensures { λ r. ⌜ r ≤ 4097 ⌝ }
 {
     let c = check(f);
     let lines = starts(f);

@@ -40,8 +40,8 @@ pub fn line_at(lines: &[usize; 144], first: usize, i: usize) -> usize {
 
 // A comma and the second field of the line that begins at `start`.
 pub fn name(out: &mut [u8; 4096], at: usize, f: &[u8], start: usize) -> usize
-    requires { ⌜ at ≤ 4096 ⌝ }
-    ensures { λ r. ⌜ r ≤ 4096 ⌝ }
+    requires { ⌜ at ≤ 4097 ⌝ }
+    ensures { λ r. ⌜ r ≤ 4097 ⌝ }
 {
     let mut n = byte(out, at, b',');
     if start >= f.len() {

@@ -6,7 +6,7 @@ use Rattle.list.proofs.accesses.Statement.{statement}
 use Rattle.list.proofs.accesses.Tie as tie
 
 abbrev Inv-loop : tie.InvT-loop
-Inv-loop out₀ at f result c lines n₀ x₀ out n x = n ≤ 4096
+Inv-loop out₀ at f result c lines n₀ x₀ out n x = n ≤ 4097
 
 abbrev μ-loop : tie.MeasureT-loop
 μ-loop out₀ at f result c lines n₀ x₀ out n x = 4096 - x

@@ -7,7 +7,7 @@ use Rattle.list.proofs.members.name.Statement.{statement}
 use Rattle.list.proofs.members.name.Tie as tie
 
 abbrev Inv-loop : tie.InvT-loop
-Inv-loop out₀ at f start n₀ i₀ out n i = n ≤ 4096
+Inv-loop out₀ at f start n₀ i₀ out n i = n ≤ 4097
 
 abbrev μ-loop : tie.MeasureT-loop
 μ-loop out₀ at f start n₀ i₀ out n i = length f - i

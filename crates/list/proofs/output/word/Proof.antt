@@ -7,7 +7,7 @@ use Rattle.list.proofs.output.word.Statement.{statement}
 use Rattle.list.proofs.output.word.Tie as tie
 
 abbrev Inv-loop : tie.InvT-loop
-Inv-loop out₀ at text n₀ i₀ i-end out n i = n ≤ 4096
+Inv-loop out₀ at text n₀ i₀ i-end out n i = n ≤ 4097
 
 abbrev μ-loop : tie.MeasureT-loop
 μ-loop out₀ at text n₀ i₀ i-end out n i = i-end - i

@@ -5,11 +5,11 @@ use borrow.Author.Needs.{needs}
 use Rattle.list.proofs.output.write_first.Statement.{statement}
 use Rattle.list.proofs.output.write_first.Tie as tie
 
-slice-aggregate-write-all : tie.Need-slice-aggregate-write-all
-slice-aggregate-write-all c = simp length-take (omega arith)
+slice-aggregate-written : tie.Need-slice-aggregate-written
+slice-aggregate-written c = simp length-take (omega arith)
 
-write-all-requires : tie.Need-write-all-requires
-write-all-requires c κs = search needs
+written-requires : tie.Need-written-requires
+written-requires c κs = search needs
 
 returns : tie.Need-returns
 returns c = search needs
@@ -18,4 +18,4 @@ returns-2 : tie.Need-returns-2
 returns-2 c = search needs
 
 pub write-first-spec : {M : Type 1} → statement M
-write-first-spec = tie.close (tie.spec slice-aggregate-write-all write-all-requires returns returns-2)
+write-first-spec = tie.close (tie.spec slice-aggregate-written written-requires returns returns-2)
