@@ -1,4 +1,5 @@
-use Rattle.snowdell.proofs.Numbers.{check-hands}
+use Rattle.snowdell.proofs.Handing.{hands-nothing}
+use Rattle.snowdell.proofs.Numbers.{returns-no-room, check-hands}
 use borrow.Author.Needs.{needs}
 use Rattle.snowdell.proofs.exports.snowdell_check.Statement.{statement}
 use Rattle.snowdell.proofs.exports.snowdell_check.Tie as tie
@@ -7,6 +8,9 @@ use Rattle.snowdell.proofs.exports.snowdell_check.Lts as lts
 use Rattle.snowdell.proofs.check.Reads as check-reads
 use Rattle.snowdell.proofs.exports.hand.Reads as hand-reads
 use Rattle.snowdell.proofs.exports.wide.Reads as wide-reads
+
+returns : tie.Need-returns
+returns c = (returns-no-room _ _ (c .if1 .taken), hands-nothing _ _ (c .if1 .taken))
 
 check-requires : tie.Need-check-requires
 check-requires c κs = search needs
@@ -32,17 +36,19 @@ hand-requires c κs = search needs
 same-length : tie.Need-same-length
 same-length c = search needs
 
-returns : tie.Need-returns
-returns c =
+returns-2 : tie.Need-returns-2
+returns-2 c =
     let c5 = c .before .before .before .before .before in
     let c8 = c5 .before .before .before in
-    check-hands _ _ _ _ _ _ _ _ (c8 .wide .ensures) (c5 .before .before .wide2 .ensures) (c5 .before .wide3 .ensures) (c5 .wide4 .ensures)
+    let c10 = c8 .before .before in
+    check-hands _ _ _ _ _ _ _ _ (c10 .if1 .left) (c8 .wide .ensures) (c5 .before .before .wide2 .ensures) (c5 .before .wide3 .ensures) (c5 .wide4 .ensures)
     (c8 .before .check .ensures) (c .before .before .hand .ensures)
 
 pub snowdell-check-spec : {M : Type 1} → statement M
 snowdell-check-spec =
     tie.close
     (tie.spec
+    returns
     check-requires
     wide-requires
     wide-requires-2
@@ -51,4 +57,4 @@ snowdell-check-spec =
     slice-aggregate-hand
     hand-requires
     same-length
-    returns)
+    returns-2)

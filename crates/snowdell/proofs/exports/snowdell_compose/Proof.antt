@@ -1,5 +1,5 @@
 use Rattle.snowdell.proofs.Handing.{hands-nothing}
-use Rattle.snowdell.proofs.Numbers.{room-no, compose-hands}
+use Rattle.snowdell.proofs.Numbers.{returns-no-room, room-no, compose-hands}
 use borrow.Author.Needs.{needs}
 use Rattle.snowdell.proofs.exports.snowdell_compose.Statement.{statement}
 use Rattle.snowdell.proofs.exports.snowdell_compose.Tie as tie
@@ -10,7 +10,7 @@ use Rattle.snowdell.proofs.exports.hand.Reads as hand-reads
 use Rattle.snowdell.proofs.exports.wide.Reads as wide-reads
 
 returns : tie.Need-returns
-returns c = (hands-nothing _ _ (c .if1 .taken), (room-no 7 _ _ _ (c .if1 .taken), room-no 7 _ _ _ (c .if1 .taken)))
+returns c = let t = c .if1 .taken in (returns-no-room _ _ t, (hands-nothing _ _ t, (room-no 7 _ _ _ t, room-no 7 _ _ _ t)))
 
 compose-requires : tie.Need-compose-requires
 compose-requires c κs = search needs
@@ -41,7 +41,7 @@ returns-2 c =
     let start = c13 .before .before .before .before .before in
     let h = compose-hands _ _ _ _ _ _ _ (start .args .result .now) (start .args .w .now) (c13 .if1 .left) (c5 .wide .ensures) (c10 .compose .ensures .0)
     (c .before .before .hand .ensures) in
-    (h .0, (h .1, h .2))
+    (h .0, (h .1, (h .2, h .3)))
 
 pub snowdell-compose-spec : {M : Type 1} → statement M
 snowdell-compose-spec =

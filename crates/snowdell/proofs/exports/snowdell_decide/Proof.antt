@@ -1,5 +1,5 @@
 use Rattle.snowdell.proofs.Handing.{hands-nothing}
-use Rattle.snowdell.proofs.Numbers.{room-no, decide-hands}
+use Rattle.snowdell.proofs.Numbers.{returns-no-room, room-no, decide-hands}
 use borrow.Author.Needs.{needs}
 use Rattle.snowdell.proofs.exports.snowdell_decide.Statement.{statement}
 use Rattle.snowdell.proofs.exports.snowdell_decide.Tie as tie
@@ -10,11 +10,12 @@ returns-2 c =
     let c5 = c .before .before .before .before .before in
     let c9 = c5 .before .before .before .before in
     let start = c9 .before .before .before .before .before .before .before .before .before in
-    decide-hands _ _ _ _ _ _ _ (start .args .w .now) (c9 .before .before .if1 .left) (c5 .before .wide .ensures) (c5 .wide2 .ensures) (c9 .decide .ensures .0)
-    (c .before .before .hand .ensures)
+    let h = decide-hands _ _ _ _ _ _ _ (start .args .w .now) (c9 .before .before .if1 .left) (c5 .before .wide .ensures) (c5 .wide2 .ensures) (c9 .decide .ensures .0)
+    (c .before .before .hand .ensures) in
+    (h .0, (h .1, h .2))
 
 returns : tie.Need-returns
-returns c = (hands-nothing _ _ (c .if1 .taken), room-no 5 _ _ _ (c .if1 .taken))
+returns c = let t = c .if1 .taken in (returns-no-room _ _ t, (hands-nothing _ _ t, room-no 5 _ _ _ t))
 
 decide-requires : tie.Need-decide-requires
 decide-requires c κs = search needs
