@@ -1,5 +1,6 @@
 //! The library's calls, with memory that is lent anew to each. All answers of this program come through here.
 
+use crate::outline::Outline;
 pub use library::Refusal;
 use library::{MEMORY, RESULT};
 
@@ -61,6 +62,23 @@ pub struct Composition {
     pub rounds: usize,
 }
 
+/// An accepted policy: what its lines say, and the engine's answers.
+pub struct Policy<'a> {
+    pub outline: Outline<'a>,
+    pub all: Composition,
+}
+
+impl Policy<'_> {
+    pub fn of(file: &[u8]) -> Result<Policy<'_>, Refusal> {
+        compose(file).map(|all| Policy { outline: Outline::of(file), all })
+    }
+
+    /// The answer to the access of these members, by their numbers.
+    pub fn answer(&self, [subject, object, action]: [usize; 3]) -> Answer {
+        self.all.answers[self.all.counts.access(subject, object, action)]
+    }
+}
+
 /// What Decide says of one access.
 #[derive(Clone, Copy, Debug, PartialEq, Eq)]
 pub struct Decision {
@@ -102,4 +120,9 @@ fn refused(refusal: Refusal) -> Result<(), Refusal> {
 /// The line that document 01's listing has for a refusal.
 pub fn refusal_line(r: Refusal) -> String {
     format!("refused,{},{},{}", r.number, r.line, r.place)
+}
+
+/// The first line of document 01's listing: how many accesses there are, are permitted, are undecided, and the rounds.
+pub fn first_line(all: &Composition) -> String {
+    format!("grants,{},{},{},{}", all.answers.len(), all.permits, all.undecided, all.rounds)
 }
