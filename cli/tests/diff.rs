@@ -137,7 +137,7 @@ fn undecided_where_a_file_lacks_the_member() {
 /// A limit that is too low leaves accesses open as well, though every list that the expression names is here.
 #[test]
 fn undecided_for_want_of_rounds() {
-    let old = with(&text("evaluator/corpus/worked/k01.pol"), "T,forms,here\n", "T,spare,away\nT,forms,here\n");
+    let old = with(&text("evaluator/corpus/worked/k01.pol"), "T,forms,here\n", "T,form,away\nT,forms,here\n");
     let new = with(&old, "E,4096,", "E,0,");
     let lines = "deny->undecided,staff,mon,read\npermit->undecided,ann,week,read\ndeny->undecided,ann,mon,read\n\
         gains,2,losses,1,came,0,went,0\n";
