@@ -345,7 +345,8 @@ fn every_pair_of_files() {
     for ((i, j), out) in &printed {
         let mut lines: Vec<String> = out.lines().map(mirrored).collect();
         let mut back: Vec<String> = printed[&(*j, *i)].lines().map(String::from).collect();
-        (lines.sort(), back.sort());
+        lines.sort();
+        back.sort();
         assert_eq!(lines, back, "{} {}", paths[*i], paths[*j]);
         assert!(i != j || out == "gains,0,losses,0,came,0,went,0\n", "{}", paths[*i]);
     }
