@@ -331,6 +331,7 @@ fn the_tables_of_plus_and_and_minus() {
         let rows: Vec<&str> = table.rows.iter().map(|row| row[0].trim_matches('*')).collect();
         assert_eq!(rows, ANSWERS);
         for row in &table.rows {
+            assert_eq!(row.len(), table.heading.len());
             for (column, shown) in ANSWERS.iter().zip(&row[1..]) {
                 assert_eq!(answer(&said, &pair(row[0].trim_matches('*'), column)), *shown, "{row:?} {sign} {column}");
             }
@@ -354,6 +355,7 @@ fn the_table_of_override() {
     let pairs: Vec<(&str, &str)> = table.rows.iter().map(|row| (row[0].as_str(), row[1].as_str())).collect();
     assert_eq!(pairs, ANSWERS.iter().flat_map(|x| ANSWERS.map(|y| (*x, y))).collect::<Vec<_>>());
     for row in &table.rows {
+        assert_eq!(row.len(), table.heading.len());
         for (z, shown) in ANSWERS.iter().zip(&row[2..]) {
             assert_eq!(answer(&said, &triple(&row[0], &row[1], z)), *shown, "{row:?} {z}");
         }
@@ -406,7 +408,7 @@ fn of_size(what: &str, size: usize) -> String {
             let (grants, spare) = ((size - fixed) / grant.len(), (size - fixed) % grant.len());
             format!("{start}O,{},-\n{rest}{}{end}", "x".repeat(spare + 1), grant.repeat(grants))
         }
-        "bytes in a name" => format!("S,{},-\nO,wk3,-\nA,read,-\nT,ward,here\nE,0,ward\n", "x".repeat(size)),
+        "characters in a name" => format!("S,{},-\nO,wk3,-\nA,read,-\nT,ward,here\nE,0,ward\n", "x".repeat(size)),
         "subjects" => format!("{}O,wk3,-\nA,read,-\nT,ward,here\nE,0,ward\n", many(size, &|i| format!("S,n{i},-\n"))),
         "objects" => format!("S,nurse,-\n{}A,read,-\nT,ward,here\nE,0,ward\n", many(size, &|i| format!("O,n{i},-\n"))),
         "actions" => format!("S,nurse,-\nO,wk3,-\n{}T,ward,here\nE,0,ward\n", many(size, &|i| format!("A,n{i},-\n"))),
@@ -435,10 +437,9 @@ fn of_size(what: &str, size: usize) -> String {
             format!("{scoped}E,0,{}ward^[leave(s)]{}\n", "(".repeat(size), ")".repeat(size))
         }
         "operators" => {
-            // Every operator once and a second plus, which makes eight; then more of plus.
-            let all = "ward&ward-ward^[s=nurse]*down+o(ward,ward,ward)+(t:x.x)(ward)";
-            let plus = "+ward".repeat(size - 8);
-            format!("{ward}R,down,?0,?1,?2\nE,0,{all}{plus}\n")
+            // Each operator is there, and then more of plus.
+            let (eight, more) = ("ward&ward-ward^[s=nurse]*down+o(ward,ward,ward)+(t:x.x)(ward)", size - 8);
+            format!("{ward}R,down,?0,?1,?2\nE,0,{eight}{}\n", "+ward".repeat(more))
         }
         "sets held at once" => goal(format!("{}ward{}", "ward+(".repeat(size - 1), ")".repeat(size - 1))),
         "templates" => goal(format!("{}x{}", "(t:x.".repeat(size), ")(ward)".repeat(size))),
@@ -458,7 +459,7 @@ fn the_table_of_limits() {
         if row[1].starts_with("bytes in the file") {
             assert_eq!([most, most + 1].map(|size| of_size(&row[1], size).len()), [most, most + 1]);
         }
-        if row[1].starts_with("bytes in a name") {
+        if row[1].starts_with("characters in a name") {
             assert_eq!(row[2], "3, in the expression 12");
             let expression = with_expression(&of_size(&row[1], most), &"x".repeat(most + 1));
             assert_eq!(refusal(&expression), [12, 5, most]);
@@ -505,9 +506,14 @@ fn sentences_on_rules() {
     assert_eq!(refusal(&policy.replace(head, "R,down,?0,?0,?2\n")), [11, 10, 0], "a variable has one sort");
     let swapped = policy.replace(body, &format!("{body}R,other,?1,?0,?2\n"));
     assert_eq!(listing(&swapped), listing(&policy), "?0 of another rule is another variable");
-    assert!(listing(&policy.replace(body, "")).starts_with("grants,6,6,0,1\n"), "a rule without B lines");
+    let everything = with_expression(&policy.replace(&format!("{head}{body}"), "R,all,helper,?0,?1\n"), "(forms-forms)*all");
+    assert_eq!(answers(&everything), ["permit,helper,wk3,read", "permit,helper,wk2,read"], "a rule without B lines");
     let others = policy.replace("T,forms,here\n", "T,forms,here\nT,more,here\n").replace("G,forms,cook", "G,more,cook");
     assert_eq!(answer(&listing(&others), "helper,wk2,read"), "deny", "B,grant does not ask other tables");
+    let chain = text(&format!("{FOLDER}/step6.pol")).replace("E,", "R,down,?0,?1,?2\nB,grant,?0,?3,?2\nB,le,O,?1,?3\nE,");
+    let chain = with_goal(&chain, "E,4096,ward^[o=wk4]*down");
+    let passed = answers(&chain).iter().filter(|line| line.starts_with("permit,nurse,")).count();
+    assert_eq!(passed, 4, "week 4 is passed to all earlier weeks");
 }
 
 #[test]
@@ -530,7 +536,7 @@ fn sentences_on_templates() {
         assert_eq!(listing(&with_expression(&policy, one)), listing(&with_expression(&policy, other)), "{one}");
     };
     alike("(t:forms.forms-forms)(forms)+forms", "forms");
-    assert_eq!(refusal(&with_expression(&policy, "(t:x.x)(forms)+x")), [13, 12, 15], "x means nothing behind the template");
+    assert_eq!(refusal(&with_expression(&policy, "(t:x.x)(forms)+x")), [13, 12, 15], "x means nothing after the template");
     assert_eq!(refusal(&with_expression(&policy, "o(t:x.x)(forms)"))[0], 12);
     alike("o((t:x.x)(forms),forms,forms)", "forms");
 }
@@ -541,9 +547,47 @@ fn sentences_on_refusals() {
     let expression = goal(&policy).1;
     assert_eq!(refusal(&with_expression(&policy, &format!("{expression}\r"))), [12, 8, expression.len()]);
     assert_eq!(refusal("S,Cook,-\nS,Nurse,-\n"), [3, 1, 0], "only the first fault is told");
-    assert_eq!(refusal("S,Cook,-\nS,nurse,-"), [2, 0, 0], "the file as a whole is looked at first");
-    let both = policy.replace("mueller,-", "Mueller,-").replace("head_cook", "mueller");
-    assert_eq!(refusal(&both), [3, 2, 0], "a line that cannot be read");
     assert_eq!(refusal(&policy.replace("S,mueller", "S,head_cook")), [5, 2, 0], "two names that are one now");
-    assert_eq!(refusal(&with_expression(&policy, "nobody^[o=wk3]+")), [12, 8, 15], "the grammar before the names");
+}
+
+/// The numbers of the sentence that says in which order a file is tested.
+fn order_of_tests() -> Vec<usize> {
+    let page = text(PAGE);
+    let sentence = page.lines().find(|line| line.starts_with("Only the first fault is told.")).expect("the sentence");
+    let bracketed = sentence.split('(').skip(1).filter_map(|rest| rest.split(')').next());
+    bracketed.flat_map(|numbers| numbers.split(", ")).map(|n| n.parse().expect("a number")).collect()
+}
+
+#[test]
+fn the_order_of_tests() {
+    let members = "S,nurse,-\nO,wk3,-\nA,read,-\n";
+    let subjects = |count: usize| -> String { (0..count).map(|i| format!("S,n{i},-\n")).collect() };
+    let goal = |expression: String| format!("{members}T,ward,here\nE,0,{expression}\n");
+    let five_templates = |inside: &str| goal(format!("{}{inside}{}", "(t:x.".repeat(5), ")(ward)".repeat(5)));
+    let eleven_sets = format!("{}x{}", "ward+(".repeat(10), ")".repeat(10));
+    // A file with two faults, of which the first is told, and the file without that one.
+    let tried = [
+        [(2, "Q".into()), (3, "Q\n".into())],
+        [(3, goal("ward\nS,Cook,-".into())), (4, goal("ward\nS,cook,-".into()))],
+        [(4, "S,nurse,-\nB,eq,S,nurse,nurse\n".into()), (8, "S,nurse,-\nT,ward,here\n".into())],
+        [(8, "S,nurse,-\nE,4097,ward\n".into()), (7, format!("{members}E,4097,ward\n"))],
+        [(7, subjects(64) + "S,n0,-\n"), (5, subjects(63) + "S,n0,-\n")],
+        [(5, "S,nurse,-\nS,nurse,nobody\n".into()), (6, "S,nurse,-\nS,cook,nobody\n".into())],
+        [
+            (6, format!("{members}T,ward,away\nG,ward,nobody,wk3,read\n")),
+            (10, format!("{members}T,ward,away\nG,ward,nurse,wk3,read\n")),
+        ],
+        [(6, format!("{members}R,down,?0,?0,nobody\n")), (11, format!("{members}R,down,?0,?0,read\n"))],
+        [(12, goal("nobody+".into())), (13, goal("nobody".into()))],
+        [(13, goal(format!("nobody{}", "+ward".repeat(65)))), (14, goal(format!("ward{}", "+ward".repeat(65))))],
+        [(14, five_templates(&eleven_sets)), (16, five_templates("x"))],
+    ];
+    let order = order_of_tests();
+    assert_eq!(order.len(), 14);
+    assert_eq!(order.last(), Some(&9));
+    let place = |number: usize| order.iter().position(|n| *n == number).expect("a number of the sentence");
+    for [(first, both), (second, alone)] in tried {
+        assert!(place(first) < place(second), "{first} before {second}");
+        assert_eq!((refusal(&both)[0], refusal(&alone)[0]), (first, second), "{both}");
+    }
 }
