@@ -1,15 +1,12 @@
 //! Closures: the corpus's heavy and big files beside the evaluator and the plain program, and the slowest of many worst-shaped files.
 
 use crate::plain::Plain;
-use crate::{file_name, Timed};
+use crate::{file_name, Timed, ENOUGH};
 use evaluator::expression::Step;
 use evaluator::generate::{self, Kind};
 use evaluator::policy::{Policy, Rule};
 use std::hint::black_box;
-use std::time::{Duration, Instant};
-
-/// A side takes no further turn once its turns have taken this long.
-const ENOUGH: Duration = Duration::from_secs(20);
+use std::time::Instant;
 
 /// The plain program is not run on a file for which it would try more instances, about a minute and a half's work.
 const MOST_INSTANCES: usize = 20_000_000_000;

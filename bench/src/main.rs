@@ -20,16 +20,19 @@ mod plain;
 
 use std::time::{Duration, Instant};
 
-/// The least time of one call, over some turns; short calls are repeated.
+/// A side takes no further turn once its turns have taken this long.
+const ENOUGH: Duration = Duration::from_secs(20);
+
+/// The time of one call in each turn; short calls are repeated.
 struct Timed {
-    least: Duration,
+    took: Vec<Duration>,
     /// How long all turns have taken.
     spent: Duration,
 }
 
 impl Timed {
     fn new() -> Timed {
-        Timed { least: Duration::MAX, spent: Duration::ZERO }
+        Timed { took: Vec::new(), spent: Duration::ZERO }
     }
 
     fn turn(&mut self, mut call: impl FnMut()) {
@@ -44,12 +47,19 @@ impl Timed {
             }
             took = start.elapsed() / times;
         }
-        self.least = self.least.min(took);
+        self.took.push(took);
         self.spent += first.elapsed();
     }
 
+    /// The least time.
     fn micros(&self) -> f64 {
-        self.least.as_nanos() as f64 / 1000.0
+        self.took.iter().min().expect("a turn").as_nanos() as f64 / 1000.0
+    }
+
+    /// The least and the largest ratio to the other's time, turn by turn.
+    fn range(&self, other: &Timed) -> (f64, f64) {
+        let ratios = self.took.iter().zip(&other.took).map(|(one, other)| one.as_secs_f64() / other.as_secs_f64());
+        ratios.fold((f64::INFINITY, 0.0), |(low, high), ratio| (low.min(ratio), high.max(ratio)))
     }
 }
 
@@ -77,10 +87,11 @@ fn turns(words: &mut Vec<String>, at: usize, otherwise: u32) -> u32 {
     }
 }
 
-fn row(name: &str, what: &str, engine: &Timed, others: &[(&str, &Timed)]) {
+fn row(name: &str, what: &str, engine: &Timed, others: &[&Timed]) {
     print!("| {name} | {what} | {:.1} |", engine.micros());
-    for (_, other) in others {
-        print!(" {:.1} | {:.2} |", other.micros(), engine.micros() / other.micros());
+    for other in others {
+        let (low, high) = engine.range(other);
+        print!(" {:.1} | {:.2} | {low:.2} to {high:.2} |", other.micros(), engine.micros() / other.micros());
     }
     println!();
 }
@@ -90,9 +101,9 @@ fn beside(words: &[String], turns: u32) {
     let mut result = vec![0u8; snowdell::RESULT];
     let mut memory = vec![0u8; snowdell::MEMORY];
 
-    println!("Times in microseconds, the least of {turns} turns; ratio = engine / other.\n");
-    println!("| file | call | engine | evaluator | ratio |");
-    println!("|---|---|---|---|---|");
+    println!("Times in microseconds, the least of up to {turns} turns; ratio = engine / other; the range is that of the turns.\n");
+    println!("| file | call | engine | evaluator | ratio | range |");
+    println!("|---|---|---|---|---|---|");
     let files = named(words);
     for (name, file) in &files {
         let (mut engine, mut other) = (Timed::new(), Timed::new());
@@ -104,11 +115,11 @@ fn beside(words: &[String], turns: u32) {
                 let _ = std::hint::black_box(evaluator::check(std::hint::black_box(file)));
             });
         }
-        row(name, "Check", &engine, &[("evaluator", &other)]);
+        row(name, "Check", &engine, &[&other]);
     }
 
-    println!("\n| file | call | engine | plain program | ratio | evaluator | ratio |");
-    println!("|---|---|---|---|---|---|---|");
+    println!("\n| file | call | engine | plain program | ratio | range | evaluator | ratio | range |");
+    println!("|---|---|---|---|---|---|---|---|---|");
     for (name, file) in &files {
         let read = evaluator::reader::read(file);
         let (mut engine, mut plain, mut other, mut asked) = (Timed::new(), Timed::new(), Timed::new(), Timed::new());
@@ -124,12 +135,14 @@ fn beside(words: &[String], turns: u32) {
         }
         for _ in 0..turns {
             engine.turn(|| said = snowdell::compose(std::hint::black_box(file), &mut result, &mut memory));
-            plain.turn(|| {
-                // The plain program reads the file by the evaluator, as the engine reads it too.
-                if let Ok(policy) = evaluator::reader::read(std::hint::black_box(file)) {
-                    std::hint::black_box(plain::Plain::new(&policy).compose());
-                }
-            });
+            if plain.spent < ENOUGH {
+                plain.turn(|| {
+                    // The plain program reads the file by the evaluator, as the engine reads it too.
+                    if let Ok(policy) = evaluator::reader::read(std::hint::black_box(file)) {
+                        std::hint::black_box(plain::Plain::new(&policy).compose());
+                    }
+                });
+            }
             other.turn(|| {
                 let _ = std::hint::black_box(evaluator::compose(std::hint::black_box(file)));
             });
@@ -137,8 +150,8 @@ fn beside(words: &[String], turns: u32) {
                 std::hint::black_box(snowdell::decide(file, names[0], names[1], names[2], &mut memory));
             });
         }
-        row(name, "Compose", &engine, &[("plain", &plain), ("evaluator", &other)]);
-        row(name, "Decide", &asked, &[("plain", &plain), ("evaluator", &other)]);
+        row(name, "Compose", &engine, &[&plain, &other]);
+        row(name, "Decide", &asked, &[&plain, &other]);
     }
 }
 
