@@ -1,9 +1,12 @@
-//! Document 01's worked file through the wrapper: K1, refusals and short buffers; templates and number 16; and the calls of
+//! Document 01's worked file through the thin calls: K1, refusals and short buffers; templates and number 16; and the functions of
 //! snowdell.h with too little room for their numbers.
 
-use snowdell::{check, compose, decide, Refusal, MEMORY, RESULT};
+mod common;
 
-extern "C" {
+use common::{K1, worked};
+use snowdell::{MEMORY, RESULT, Refusal, check, compose, decide};
+
+unsafe extern "C" {
     fn snowdell_check(file: *const u8, len: usize, numbers: *mut usize, count: usize);
     fn snowdell_compose(
         file: *const u8,
@@ -17,11 +20,16 @@ extern "C" {
     );
 }
 
-const K1: &[u8] = include_bytes!("../../evaluator/corpus/worked/k01.pol");
-const K11: &[u8] = include_bytes!("../../evaluator/corpus/worked/k11.pol");
-const TEMPLATE: &[u8] = include_bytes!("../../evaluator/corpus/cr/01/readings/1.12a.pol");
-const FIVE_BINDINGS: &[u8] = include_bytes!("../../evaluator/corpus/cr/01/readings/1.10b.pol");
+const FIVE_BINDINGS: &[u8] = b"S,x,-\nO,y,-\nA,z,-\nT,b,here\nE,0,(t:x.(t:x.(t:x.(t:x.(t:x.x)(b))(b))(b))(b))(b)\n";
 const ACCEPTED: Refusal = refusal(0, 0, 0);
+
+fn k1() -> Vec<u8> {
+    worked(4096, K1)
+}
+
+fn k11() -> Vec<u8> {
+    worked(4096, "forms-")
+}
 
 const fn refusal(number: usize, line: usize, place: usize) -> Refusal {
     Refusal { number, line, place }
@@ -29,9 +37,9 @@ const fn refusal(number: usize, line: usize, place: usize) -> Refusal {
 
 #[test]
 fn check_counts_or_refuses() {
-    let said = check(K1);
+    let said = check(&k1());
     assert_eq!((said.refusal, said.subjects, said.objects, said.actions), (ACCEPTED, 2, 2, 1));
-    let said = check(K11);
+    let said = check(&k11());
     assert_eq!((said.refusal, said.subjects, said.objects, said.actions), (refusal(12, 11, 6), 0, 0, 0));
     assert_eq!(check(b"").refusal, refusal(2, 0, 0));
 }
@@ -39,7 +47,7 @@ fn check_counts_or_refuses() {
 #[test]
 fn compose_writes_n_bytes_and_clears_its_memory() {
     let (mut result, mut memory) = ([9; RESULT], vec![9; MEMORY + 1]);
-    let said = compose(K1, &mut result, &mut memory);
+    let said = compose(&k1(), &mut result, &mut memory);
     assert_eq!((said.refusal, said.accesses, said.permits, said.undecided, said.rounds), (ACCEPTED, 4, 2, 0, 1));
     assert_eq!(result[..5], [2, 0, 2, 0, 9]);
     assert!(memory[..MEMORY].iter().all(|b| *b == 0) && memory[MEMORY] == 9);
@@ -48,7 +56,7 @@ fn compose_writes_n_bytes_and_clears_its_memory() {
 #[test]
 fn a_refusal_leaves_the_result() {
     let (mut result, mut memory) = ([9; RESULT], vec![9; MEMORY]);
-    let said = compose(K11, &mut result, &mut memory);
+    let said = compose(&k11(), &mut result, &mut memory);
     assert_eq!((said.refusal, said.accesses), (refusal(12, 11, 6), 0));
     assert_eq!(result, [9; RESULT]);
     assert!(memory.iter().all(|b| *b == 0));
@@ -79,12 +87,13 @@ impl Guarded {
 
 #[test]
 fn a_template_is_composed_once() {
+    let template = worked(4096, "(t:x.x+x)(forms*down)");
     let (mut result, mut memory) = (Guarded::of(RESULT), Guarded::of(MEMORY + 1));
-    let said = compose(TEMPLATE, result.lent(), memory.lent());
+    let said = compose(&template, result.lent(), memory.lent());
     assert_eq!((said.refusal, said.accesses, said.permits, said.undecided, said.rounds), (ACCEPTED, 4, 2, 0, 1));
     assert!(result.has_only(&[2, 0, 2, 0]));
     assert!(memory.has_only(&[0; MEMORY]));
-    let said = decide(TEMPLATE, b"ann", b"week", b"read", memory.lent());
+    let said = decide(&template, b"ann", b"week", b"read", memory.lent());
     assert_eq!((said.refusal, said.answer, said.rounds), (ACCEPTED, 2, 1));
 }
 
@@ -120,9 +129,9 @@ fn t_alone_is_no_name() {
 #[test]
 fn short_buffers_give_1_and_stay() {
     let (mut result, mut memory) = ([9; RESULT], vec![9; MEMORY]);
-    assert_eq!(compose(K1, &mut result[1..], &mut memory).refusal, refusal(1, 0, 0));
-    assert_eq!(compose(K1, &mut result, &mut memory[1..]).refusal, refusal(1, 0, 0));
-    assert_eq!(decide(K1, b"ann", b"week", b"read", &mut memory[1..]).refusal, refusal(1, 0, 0));
+    assert_eq!(compose(&k1(), &mut result[1..], &mut memory).refusal, refusal(1, 0, 0));
+    assert_eq!(compose(&k1(), &mut result, &mut memory[1..]).refusal, refusal(1, 0, 0));
+    assert_eq!(decide(&k1(), b"ann", b"week", b"read", &mut memory[1..]).refusal, refusal(1, 0, 0));
     assert!(result.iter().chain(&memory).all(|b| *b == 9));
 }
 
@@ -130,7 +139,7 @@ fn short_buffers_give_1_and_stay() {
 fn decide_answers_or_names_the_unknown() {
     let mut memory = vec![9; MEMORY];
     let mut ask = |s: &[u8], o: &[u8], a: &[u8]| {
-        let said = decide(K1, s, o, a, &mut memory);
+        let said = decide(&k1(), s, o, a, &mut memory);
         (said.refusal, said.answer, said.rounds)
     };
     assert_eq!(ask(b"ann", b"week", b"read"), (ACCEPTED, 2, 1));
@@ -143,13 +152,13 @@ fn decide_answers_or_names_the_unknown() {
 
 #[test]
 fn too_little_room_for_the_numbers_and_nothing_is_done() {
-    let (mut result, mut memory, mut numbers) = ([9; RESULT], vec![9; MEMORY], [9usize; 7]);
+    let (file, mut result, mut memory, mut numbers) = (k1(), [9; RESULT], vec![9; MEMORY], [9usize; 7]);
     // SAFETY: each pointer comes with at most the length of what it points to.
     unsafe {
-        snowdell_check(K1.as_ptr(), K1.len(), numbers.as_mut_ptr(), 5);
+        snowdell_check(file.as_ptr(), file.len(), numbers.as_mut_ptr(), 5);
         snowdell_compose(
-            K1.as_ptr(),
-            K1.len(),
+            file.as_ptr(),
+            file.len(),
             result.as_mut_ptr(),
             RESULT,
             memory.as_mut_ptr(),
@@ -161,6 +170,6 @@ fn too_little_room_for_the_numbers_and_nothing_is_done() {
     assert_eq!(numbers, [9; 7]);
     assert!(result.iter().chain(&memory).all(|b| *b == 9));
     // SAFETY: as above.
-    unsafe { snowdell_check(K1.as_ptr(), K1.len(), numbers.as_mut_ptr(), 7) };
+    unsafe { snowdell_check(file.as_ptr(), file.len(), numbers.as_mut_ptr(), 7) };
     assert_eq!(numbers, [0, 0, 0, 2, 2, 1, 9]);
 }

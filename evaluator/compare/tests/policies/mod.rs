@@ -62,7 +62,7 @@ pub fn all() -> Vec<Case> {
 
 /// The corpus with its listings, the files of the programs, the examples.
 fn on_disk() -> Vec<Case> {
-    let root = Path::new(env!("CARGO_MANIFEST_DIR")).parent().expect("the repository");
+    let root = Path::new(env!("CARGO_MANIFEST_DIR")).ancestors().nth(2).expect("the repository");
     let folders = ["evaluator/corpus", "crates/edges/data", "crates/larger/data", "crates/lookups/data", "examples"];
     folders.iter().flat_map(|folder| policies_in(&root.join(folder))).map(|path| stored(root, &path)).collect()
 }
