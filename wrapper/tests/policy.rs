@@ -3,8 +3,9 @@
 mod common;
 
 use common::{K1, worked};
-use snowdell::{Access, Answer, Answers, Member, Memory, Policy, Refusal, Refused, Undeclared};
+use snowdell::{Access, Answer, Answers, CHECK_STACK, Member, Memory, Policy, Refusal, Refused, STACK, Undeclared};
 use std::error::Error;
+use std::sync::Mutex;
 use std::thread;
 
 /// Sorts that share a name, hierarchies, a list that is here and one that is away.
@@ -232,6 +233,28 @@ fn threads_share_a_policy() {
         let threads: Vec<_> = (0..4).map(|_| scope.spawn(|| (0..50).all(|_| all() == alone))).collect();
         assert!(threads.into_iter().all(|thread| thread.join().expect("no panic")));
     });
+}
+
+/// Runs on a thread with a stack of so many bytes. One that is too small ends the process.
+fn on_a_stack<T: Send>(room: usize, work: impl FnOnce() -> T + Send) -> T {
+    thread::scope(|scope| {
+        let small = thread::Builder::new().stack_size(room).spawn_scoped(scope, work);
+        small.expect("a thread").join().expect("no panic")
+    })
+}
+
+#[test]
+fn the_types_need_no_more_stack_than_the_calls() {
+    static LENT: Mutex<(Answers, Memory)> = Mutex::new((Answers::new(), Memory::new()));
+    let file = worked(4096, &format!("{}forms*down{}", "(t:x.x)(".repeat(32), ")".repeat(32)));
+    let policy = on_a_stack(CHECK_STACK, || Policy::new(&file)).expect("an accepted file");
+    let said = on_a_stack(STACK, || {
+        let (answers, memory) = &mut *LENT.lock().expect("no panic");
+        let all = policy.compose(answers, memory);
+        let counted = (all.permits, all.rounds, all.accesses().len());
+        (counted, policy.decide("ann", "week", "read", memory).map(|said| said.answer))
+    });
+    assert_eq!(said, ((2, 1, 4), Ok(Answer::Permit)));
 }
 
 #[test]
