@@ -136,7 +136,10 @@ pub struct Accesses<'a> {
     policy: Policy<'a>,
     /// Those of the accesses that are still to come.
     answers: slice::Iter<'a, u8>,
-    /// The members from that of the next access on.
+    /// The subject and the object of the last access.
+    subject: &'a str,
+    object: &'a str,
+    /// The subjects, the objects for this subject and the actions for this object that are still to come.
     subjects: Members<'a>,
     objects: Members<'a>,
     actions: Members<'a>,
@@ -147,23 +150,30 @@ impl<'a> Accesses<'a> {
         Accesses {
             policy: policy.clone(),
             answers: answers.iter(),
+            subject: "",
+            object: "",
             subjects: policy.subjects(),
-            objects: policy.objects(),
-            actions: policy.actions(),
+            objects: Members::NONE,
+            actions: Members::NONE,
         }
     }
 
-    /// On to the next action; behind the last to the first, and to the next object; and behind the last of these to the next subject.
-    fn step(&mut self) {
-        self.actions.next();
+    /// The next action; behind the last the first again, for the next object.
+    fn next_action(&mut self) -> Option<&'a str> {
         if self.actions.len() == 0 {
+            self.object = self.next_object()?;
             self.actions = self.policy.actions();
-            self.objects.next();
         }
+        self.actions.next().map(|action| action.name)
+    }
+
+    /// The next object; behind the last the first again, for the next subject.
+    fn next_object(&mut self) -> Option<&'a str> {
         if self.objects.len() == 0 {
+            self.subject = self.subjects.next()?.name;
             self.objects = self.policy.objects();
-            self.subjects.next();
         }
+        self.objects.next().map(|object| object.name)
     }
 }
 
@@ -171,24 +181,14 @@ impl<'a> Iterator for Accesses<'a> {
     type Item = Access<'a>;
 
     fn next(&mut self) -> Option<Access<'a>> {
-        let access = Access {
-            answer: self.answers.next().map(answer)?,
-            subject: name(&self.subjects)?,
-            object: name(&self.objects)?,
-            action: name(&self.actions)?,
-        };
-        self.step();
-        Some(access)
+        let answer = self.answers.next().map(answer)?;
+        let action = self.next_action()?;
+        Some(Access { answer, subject: self.subject, object: self.object, action })
     }
 
     fn size_hint(&self) -> (usize, Option<usize>) {
         self.answers.size_hint()
     }
-}
-
-/// The name of the first that is left.
-fn name<'a>(members: &Members<'a>) -> Option<&'a str> {
-    members.clone().next().map(|member| member.name)
 }
 
 impl ExactSizeIterator for Accesses<'_> {}

@@ -40,9 +40,8 @@ impl<'a> Policy<'a> {
     pub fn new(file: &'a [u8]) -> Result<Policy<'a>, Refused> {
         let said = thin::check(file);
         said.refusal.accepted()?;
-        // An accepted file is ASCII, and begins with its S, O and A lines in this order.
-        let text = core::str::from_utf8(file).unwrap_or_default();
-        let (subjects, rest) = Members::first(said.subjects, text);
+        // An accepted file begins with its S, O and A lines, in this order.
+        let (subjects, rest) = Members::first(said.subjects, file);
         let (objects, rest) = Members::first(said.objects, rest);
         let (actions, _) = Members::first(said.actions, rest);
         Ok(Policy { file, subjects, objects, actions })
@@ -169,18 +168,33 @@ pub struct Member<'a> {
 #[must_use]
 pub struct Members<'a> {
     /// The rest of the file, from the next member's line on.
-    rest: &'a str,
+    rest: &'a [u8],
     left: usize,
 }
 
 impl<'a> Members<'a> {
+    /// None.
+    pub(crate) const NONE: Members<'a> = Members { rest: &[], left: 0 };
+
     /// Those of the first so many lines, and what comes after these lines.
-    fn first(count: usize, text: &'a str) -> (Members<'a>, &'a str) {
-        let members = Members { rest: text, left: count };
+    fn first(count: usize, file: &'a [u8]) -> (Members<'a>, &'a [u8]) {
+        let members = Members { rest: file, left: count };
         let mut passed = members.clone();
         passed.by_ref().for_each(drop);
         (members, passed.rest)
     }
+}
+
+/// What stands before the first such sign, and what behind it.
+fn cut(text: &[u8], sign: u8) -> Option<(&[u8], &[u8])> {
+    let at = text.iter().position(|byte| *byte == sign)?;
+    let (before, rest) = text.split_at_checked(at)?;
+    Some((before, rest.get(1..)?))
+}
+
+/// A name of an accepted file, which is ASCII.
+fn name(bytes: &[u8]) -> &str {
+    core::str::from_utf8(bytes).unwrap_or_default()
 }
 
 impl<'a> Iterator for Members<'a> {
@@ -188,12 +202,11 @@ impl<'a> Iterator for Members<'a> {
 
     fn next(&mut self) -> Option<Member<'a>> {
         let left = self.left.checked_sub(1)?;
-        // Lists of one sign: the search for a sign alone has a panic in it as far as the compiler sees.
-        let (line, rest) = self.rest.split_once(['\n'])?;
+        let (line, rest) = cut(self.rest, b'\n')?;
         *self = Members { rest, left };
-        let mut fields = line.split([',']).skip(1);
-        let name = fields.next()?;
-        Some(Member { name, parent: fields.next().filter(|parent| *parent != "-") })
+        let (_kind, fields) = cut(line, b',')?;
+        let (own, parent) = cut(fields, b',')?;
+        Some(Member { name: name(own), parent: if parent == b"-" { None } else { Some(name(parent)) } })
     }
 
     fn size_hint(&self) -> (usize, Option<usize>) {
