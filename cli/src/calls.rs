@@ -1,41 +1,8 @@
 //! The library's calls, with memory that is lent anew to each. All answers of this program come through here.
 
 use crate::outline::Outline;
-pub use library::Refusal;
-use library::{MEMORY, RESULT};
-
-/// The engine's answer to an access.
-#[derive(Clone, Copy, Debug, PartialEq, Eq, PartialOrd, Ord)]
-pub enum Answer {
-    Deny,
-    Undecided,
-    Permit,
-}
-
-impl Answer {
-    /// The answer of a byte that the engine wrote; the contracts say that there is no other.
-    fn of(byte: usize) -> Answer {
-        match byte {
-            0 => Answer::Deny,
-            1 => Answer::Undecided,
-            2 => Answer::Permit,
-            other => unreachable!("the engine answered {other}"),
-        }
-    }
-
-    /// The number that the engine gives it.
-    pub fn number(self) -> usize {
-        self as usize
-    }
-
-    pub fn word(self) -> &'static str {
-        match self {
-            Answer::Deny => "deny",
-            Answer::Undecided => "undecided",
-            Answer::Permit => "permit",
-        }
-    }
-}
+pub use library::{Answer, Decision, Refusal};
+use library::{Answers, Memory, MEMORY};
 
 /// How many members each sort has.
 #[derive(Clone, Copy, Debug, PartialEq, Eq)]
@@ -79,42 +46,29 @@ impl Policy<'_> {
     }
 }
 
-/// What Decide says of one access.
-#[derive(Clone, Copy, Debug, PartialEq, Eq)]
-pub struct Decision {
-    pub answer: Answer,
-    pub rounds: usize,
-}
-
 /// The file is accepted, or why it is not.
 pub fn check(file: &[u8]) -> Result<Counts, Refusal> {
-    let said = library::check(file);
-    refused(said.refusal)?;
-    Ok(Counts { subjects: said.subjects, objects: said.objects, actions: said.actions })
+    Ok(counts(&library::Policy::new(file)?))
 }
 
 pub fn compose(file: &[u8]) -> Result<Composition, Refusal> {
-    let counts = check(file)?;
-    let (mut result, mut memory) = (vec![0; RESULT], vec![0; MEMORY]);
-    let said = library::compose(file, &mut result, &mut memory);
-    refused(said.refusal)?;
-    let answers = result[..said.accesses].iter().map(|&byte| Answer::of(byte.into())).collect();
-    Ok(Composition { counts, answers, permits: said.permits, undecided: said.undecided, rounds: said.rounds })
+    let policy = library::Policy::new(file)?;
+    let (mut answers, mut memory) = (Answers::new(), Memory::new());
+    let all = policy.compose(&mut answers, &mut memory);
+    let answers = all.accesses().map(|access| access.answer).collect();
+    Ok(Composition { counts: counts(&policy), answers, permits: all.permits, undecided: all.undecided, rounds: all.rounds })
 }
 
+fn counts(policy: &library::Policy) -> Counts {
+    Counts { subjects: policy.subjects().len(), objects: policy.objects().len(), actions: policy.actions().len() }
+}
+
+/// By the thin call, since the names may be any bytes.
 pub fn decide(file: &[u8], subject: &[u8], object: &[u8], action: &[u8]) -> Result<Decision, Refusal> {
-    let mut memory = vec![0; MEMORY];
-    let said = library::decide(file, subject, object, action, &mut memory);
-    refused(said.refusal)?;
-    Ok(Decision { answer: Answer::of(said.answer), rounds: said.rounds })
-}
-
-fn refused(refusal: Refusal) -> Result<(), Refusal> {
-    if refusal.number == 0 {
-        Ok(())
-    } else {
-        Err(refusal)
-    }
+    let said = library::decide(file, subject, object, action, &mut vec![0; MEMORY]);
+    said.refusal.accepted()?;
+    let answer = Answer::of(said.answer).expect("the call's contract knows no other answer");
+    Ok(Decision { answer, rounds: said.rounds })
 }
 
 /// The line that document 01's listing has for a refusal.
