@@ -48,3 +48,8 @@ pub use memory::{Answers, Memory};
 pub use policy::{Member, Members, Policy};
 pub use refusal::{Refused, Undeclared};
 pub use thin::{CHECK_STACK, Checked, Composed, Decided, MEMORY, RESULT, Refusal, STACK, check, compose, decide};
+
+/// The examples of README.md, run as the others are.
+#[cfg(doctest)]
+#[doc = include_str!("../README.md")]
+struct Readme;
