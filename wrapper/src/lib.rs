@@ -47,7 +47,7 @@ pub use composition::{Access, Accesses, Composition};
 pub use memory::{Answers, Memory};
 pub use policy::{Member, Members, Policy};
 pub use refusal::{Refused, Undeclared};
-pub use thin::{CHECK_STACK, Checked, Composed, Decided, MEMORY, RESULT, Refusal, STACK, check, compose, decide};
+pub use thin::{CHECK_STACK, Checked, Composed, Decided, MEMORY, RESULT, Refusal, STACK, check, compose, decide, version};
 
 /// The examples of README.md, run as the others are.
 #[cfg(doctest)]

@@ -3,8 +3,10 @@
 //! library: they are assumed to fit. All `unsafe` of this crate is here.
 #![allow(unsafe_code)]
 
+// Each call returns the first of its numbers too.
 unsafe extern "C" {
-    fn snowdell_check(file: *const u8, file_len: usize, numbers: *mut usize, numbers_len: usize);
+    safe fn snowdell_version() -> usize;
+    fn snowdell_check(file: *const u8, file_len: usize, numbers: *mut usize, numbers_len: usize) -> usize;
     fn snowdell_compose(
         file: *const u8,
         file_len: usize,
@@ -14,7 +16,7 @@ unsafe extern "C" {
         memory_len: usize,
         numbers: *mut usize,
         numbers_len: usize,
-    );
+    ) -> usize;
     fn snowdell_decide(
         file: *const u8,
         file_len: usize,
@@ -28,7 +30,17 @@ unsafe extern "C" {
         memory_len: usize,
         numbers: *mut usize,
         numbers_len: usize,
-    );
+    ) -> usize;
+}
+
+/// The library's version: major × 10,000 + minor × 100 + patch.
+///
+/// ```
+/// assert_eq!(snowdell::version(), 200); // 0.2.0
+/// ```
+#[must_use]
+pub fn version() -> usize {
+    snowdell_version()
 }
 
 /// The least length of [`compose`]'s result: a byte for each possible access.

@@ -1,13 +1,13 @@
-//! Document 01's worked file through the thin calls: K1, refusals and short buffers; templates and number 16; and the functions of
-//! snowdell.h with too little room for their numbers.
+//! Document 01's worked file through the thin calls: K1, refusals and short buffers; templates and number 16. And the functions of
+//! snowdell.h: what they return and write, with too little room for their numbers too; the version.
 
 mod common;
 
 use common::{K1, worked};
-use snowdell::{MEMORY, RESULT, Refusal, check, compose, decide};
+use snowdell::{MEMORY, RESULT, Refusal, check, compose, decide, version};
 
 unsafe extern "C" {
-    fn snowdell_check(file: *const u8, len: usize, numbers: *mut usize, count: usize);
+    fn snowdell_check(file: *const u8, len: usize, numbers: *mut usize, count: usize) -> usize;
     fn snowdell_compose(
         file: *const u8,
         len: usize,
@@ -17,7 +17,21 @@ unsafe extern "C" {
         memory_len: usize,
         numbers: *mut usize,
         count: usize,
-    );
+    ) -> usize;
+    fn snowdell_decide(
+        file: *const u8,
+        len: usize,
+        subject: *const u8,
+        subject_len: usize,
+        object: *const u8,
+        object_len: usize,
+        action: *const u8,
+        action_len: usize,
+        memory: *mut u8,
+        memory_len: usize,
+        numbers: *mut usize,
+        count: usize,
+    ) -> usize;
 }
 
 const FIVE_BINDINGS: &[u8] = b"S,x,-\nO,y,-\nA,z,-\nT,b,here\nE,0,(t:x.(t:x.(t:x.(t:x.(t:x.x)(b))(b))(b))(b))(b)\n";
@@ -150,26 +164,103 @@ fn decide_answers_or_names_the_unknown() {
     assert!(memory.iter().all(|b| *b == 0));
 }
 
+/// What a call of snowdell.h returns where it has too little room for its numbers.
+const TOO_LITTLE: usize = 256;
+
+/// The functions of snowdell.h on one file, with buffers of nines and room for so many numbers.
+struct Called {
+    file: Vec<u8>,
+    result: Vec<u8>,
+    memory: Vec<u8>,
+    numbers: [usize; 8],
+}
+
+impl Called {
+    fn on(file: Vec<u8>) -> Called {
+        Called { file, result: vec![9; RESULT], memory: vec![9; MEMORY], numbers: [9; 8] }
+    }
+
+    /// Has anything been written?
+    fn is_touched(&self) -> bool {
+        self.result.iter().chain(&self.memory).any(|b| *b != 9) || self.numbers != [9; 8]
+    }
+
+    fn check(&mut self, room: usize) -> usize {
+        let numbers = &mut self.numbers[..room];
+        // SAFETY: each pointer comes with the length of what it points to.
+        unsafe { snowdell_check(self.file.as_ptr(), self.file.len(), numbers.as_mut_ptr(), numbers.len()) }
+    }
+
+    fn compose(&mut self, room: usize) -> usize {
+        let (file, result, memory, numbers) = (&self.file, &mut self.result, &mut self.memory, &mut self.numbers[..room]);
+        // SAFETY: each pointer comes with the length of what it points to; nothing overlaps.
+        unsafe {
+            snowdell_compose(
+                file.as_ptr(),
+                file.len(),
+                result.as_mut_ptr(),
+                result.len(),
+                memory.as_mut_ptr(),
+                memory.len(),
+                numbers.as_mut_ptr(),
+                numbers.len(),
+            )
+        }
+    }
+
+    fn decide(&mut self, subject: &str, room: usize) -> usize {
+        let (file, memory, numbers) = (&self.file, &mut self.memory, &mut self.numbers[..room]);
+        let (object, action) = ("week", "read");
+        // SAFETY: each pointer comes with the length of what it points to; nothing overlaps.
+        unsafe {
+            snowdell_decide(
+                file.as_ptr(),
+                file.len(),
+                subject.as_ptr(),
+                subject.len(),
+                object.as_ptr(),
+                object.len(),
+                action.as_ptr(),
+                action.len(),
+                memory.as_mut_ptr(),
+                memory.len(),
+                numbers.as_mut_ptr(),
+                numbers.len(),
+            )
+        }
+    }
+}
+
 #[test]
 fn too_little_room_for_the_numbers_and_nothing_is_done() {
-    let (file, mut result, mut memory, mut numbers) = (k1(), [9; RESULT], vec![9; MEMORY], [9usize; 7]);
-    // SAFETY: each pointer comes with at most the length of what it points to.
-    unsafe {
-        snowdell_check(file.as_ptr(), file.len(), numbers.as_mut_ptr(), 5);
-        snowdell_compose(
-            file.as_ptr(),
-            file.len(),
-            result.as_mut_ptr(),
-            RESULT,
-            memory.as_mut_ptr(),
-            MEMORY,
-            numbers.as_mut_ptr(),
-            6,
-        );
+    for file in [k1(), k11()] {
+        let mut called = Called::on(file);
+        for room in 0..5 {
+            assert_eq!([called.check(room), called.compose(room), called.decide("ann", room)], [TOO_LITTLE; 3]);
+        }
+        assert_eq!([called.check(5), called.compose(5), called.compose(6)], [TOO_LITTLE; 3]);
+        assert!(!called.is_touched());
     }
-    assert_eq!(numbers, [9; 7]);
-    assert!(result.iter().chain(&memory).all(|b| *b == 9));
-    // SAFETY: as above.
-    unsafe { snowdell_check(file.as_ptr(), file.len(), numbers.as_mut_ptr(), 7) };
-    assert_eq!(numbers, [0, 0, 0, 2, 2, 1, 9]);
+}
+
+#[test]
+fn a_call_returns_its_number_and_writes_no_more_than_its_numbers() {
+    let mut called = Called::on(k1());
+    assert_eq!((called.check(8), called.numbers), (0, [0, 0, 0, 2, 2, 1, 9, 9]));
+    assert_eq!((called.compose(8), called.numbers), (0, [0, 0, 0, 4, 2, 0, 1, 9]));
+    assert_eq!((called.decide("ann", 5), called.numbers), (0, [0, 0, 0, 2, 1, 0, 1, 9]));
+    assert_eq!((called.decide("bob", 5), called.numbers), (15, [15, 0, 1, 0, 0, 0, 1, 9]));
+    let mut called = Called::on(k11());
+    assert_eq!((called.check(6), called.numbers), (12, [12, 11, 6, 0, 0, 0, 9, 9]));
+    assert_eq!((called.compose(7), called.numbers), (12, [12, 11, 6, 0, 0, 0, 0, 9]));
+    assert_eq!((called.decide("ann", 8), called.numbers), (12, [12, 11, 6, 0, 0, 0, 0, 9]));
+    called.memory.pop();
+    assert_eq!([called.compose(7), called.decide("ann", 5)], [1, 1]);
+}
+
+#[test]
+fn the_librarys_version_is_the_crates() {
+    let parts = [env!("CARGO_PKG_VERSION_MAJOR"), env!("CARGO_PKG_VERSION_MINOR"), env!("CARGO_PKG_VERSION_PATCH")];
+    let number = parts.into_iter().fold(0, |number, part| number * 100 + part.parse::<usize>().expect("a number"));
+    assert_eq!(version(), number);
 }
