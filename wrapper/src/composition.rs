@@ -61,7 +61,7 @@ impl<'a> Composition<'a> {
             return None;
         }
         let access = subject.checked_mul(objects)?.checked_add(object)?.checked_mul(actions)?.checked_add(action)?;
-        self.answers.get(access).map(answer)
+        self.answers.get(access).copied().map(answer)
     }
 
     /// All accesses with their names and answers, in the order of their numbers: by subject, then by object, then by action.
@@ -80,8 +80,8 @@ impl<'a> Composition<'a> {
     }
 }
 
-fn answer(byte: &u8) -> Answer {
-    Answer::given(usize::from(*byte))
+fn answer(byte: u8) -> Answer {
+    Answer::given(byte.into())
 }
 
 impl fmt::Debug for Composition<'_> {
@@ -181,7 +181,7 @@ impl<'a> Iterator for Accesses<'a> {
     type Item = Access<'a>;
 
     fn next(&mut self) -> Option<Access<'a>> {
-        let answer = self.answers.next().map(answer)?;
+        let answer = self.answers.next().copied().map(answer)?;
         let action = self.next_action()?;
         Some(Access { answer, subject: self.subject, object: self.object, action })
     }

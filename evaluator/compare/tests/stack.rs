@@ -4,6 +4,7 @@
 
 mod policies;
 mod stacks;
+mod stored;
 
 use policies::Case;
 use snowdell::{check, compose, decide, Refusal, CHECK_STACK, MEMORY, RESULT, STACK};

@@ -1,31 +1,15 @@
 //! The wrapper's types on the corpus, its asks, the examples and generated files: what they make of a file is the listing that is stored
 //! beside it, or the evaluator's.
 
+mod stored;
+
 use evaluator::generate::{policy, Kind};
 use snowdell::{Answer, Answers, Memory, Policy, Refusal, Refused};
 use std::fs;
-use std::path::{Path, PathBuf};
+use stored::{policies, root};
 
 const SEED: u64 = 11;
 const GENERATED: u64 = 100;
-
-fn root() -> &'static Path {
-    Path::new(env!("CARGO_MANIFEST_DIR")).ancestors().nth(2).expect("the repository")
-}
-
-/// The policies of a folder and those below it.
-fn policies_in(folder: &Path) -> Vec<PathBuf> {
-    let mut found = Vec::new();
-    for entry in fs::read_dir(folder).expect("a folder") {
-        let path = entry.expect("an entry").path();
-        if path.is_dir() {
-            found.extend(policies_in(&path));
-        } else if path.extension().is_some_and(|end| end == "pol") {
-            found.push(path);
-        }
-    }
-    found
-}
 
 fn refused(refused: Refused) -> String {
     let Refusal { number, line, place } = refused.into();
@@ -49,8 +33,7 @@ fn listed(file: &[u8], answers: &mut Answers, memory: &mut Memory) -> String {
 #[test]
 fn stored_files_have_their_listings() {
     let (mut answers, mut memory) = (Answers::new(), Memory::new());
-    let folders = ["evaluator/corpus", "examples"];
-    let paths: Vec<PathBuf> = folders.iter().flat_map(|folder| policies_in(&root().join(folder))).collect();
+    let paths = policies(&["evaluator/corpus", "examples"]);
     assert!(paths.len() > 1_200, "{} files", paths.len());
     for path in paths {
         let file = fs::read(&path).expect("a policy");

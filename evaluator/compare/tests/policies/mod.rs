@@ -3,9 +3,10 @@
 pub mod deep;
 pub mod large;
 
+use crate::stored::{policies, root};
 use evaluator::generate::{policy, Kind};
 use std::fs;
-use std::path::{Path, PathBuf};
+use std::path::Path;
 
 pub const MOST_BYTES: usize = 32_768;
 
@@ -62,27 +63,12 @@ pub fn all() -> Vec<Case> {
 
 /// The corpus with its listings, the files of the programs, the examples.
 fn on_disk() -> Vec<Case> {
-    let root = Path::new(env!("CARGO_MANIFEST_DIR")).ancestors().nth(2).expect("the repository");
     let folders = ["evaluator/corpus", "crates/edges/data", "crates/larger/data", "crates/lookups/data", "examples"];
-    folders.iter().flat_map(|folder| policies_in(&root.join(folder))).map(|path| stored(root, &path)).collect()
+    policies(&folders).iter().map(|path| stored(path)).collect()
 }
 
-fn policies_in(folder: &Path) -> Vec<PathBuf> {
-    let mut found = Vec::new();
-    for entry in fs::read_dir(folder).expect("a folder") {
-        let path = entry.expect("an entry").path();
-        if path.is_dir() {
-            found.extend(policies_in(&path));
-        } else if path.extension().is_some_and(|end| end == "pol") {
-            found.push(path);
-        }
-    }
-    found.sort();
-    found
-}
-
-fn stored(root: &Path, path: &Path) -> Case {
-    let name = path.strip_prefix(root).expect("a file of the repository").display().to_string();
+fn stored(path: &Path) -> Case {
+    let name = path.strip_prefix(root()).expect("a file of the repository").display().to_string();
     let file = fs::read(path).expect("a policy");
     match fs::read_to_string(path.with_extension("out")) {
         Ok(listing) => listed(name, file, &listing),
