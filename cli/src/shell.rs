@@ -128,6 +128,14 @@ pub fn escaped(text: &[u8]) -> String {
     text.iter().map(|&b| if (b' '..=b'~').contains(&b) { (b as char).to_string() } else { format!("\\x{b:02x}") }).collect()
 }
 
+/// `a`, `a and b`, or `a, b and c`.
+pub fn joined(words: &[&str]) -> String {
+    match words {
+        [before @ .., last] if !before.is_empty() => format!("{} and {last}", before.join(", ")),
+        _ => words.concat(),
+    }
+}
+
 /// The arguments, so many and no option among them; `names` are what the usage line calls them.
 pub fn exactly<'a, const N: usize>(arguments: &'a [OsString], usage: &str) -> Result<&'a [OsString; N], Stop> {
     arguments.try_into().map_err(|_| Stop::Usage(format!("usage: snowdell {usage}")))
