@@ -1,12 +1,11 @@
 //! Numbers 4 to 8, 10 and 11: a line that can be read but does not fit those before it.
 
 use super::fields::{self, quoted, sort, Field};
+use super::form::KINDS;
 use super::names::{unknown, Need};
 use super::{lines, Fault, Hint};
 use crate::outline::{Outline, Sort, SORTS};
 
-/// The kinds in the order of their groups; R and B are one group.
-const ORDER: &[u8] = b"SOAPTGRBE";
 const MOST_MEMBERS: [usize; 3] = [64, 64, 16];
 const MOST_ACCESSES: usize = 4096;
 const MOST_RULES: usize = 64;
@@ -17,7 +16,7 @@ fn kind(line: &[u8]) -> u8 {
 
 fn group(kind: u8) -> usize {
     let kind = if kind == b'B' { b'R' } else { kind };
-    ORDER.iter().position(|&k| k == kind).unwrap_or(ORDER.len())
+    KINDS.iter().position(|&k| k == kind).unwrap_or(KINDS.len())
 }
 
 /// Number 4.

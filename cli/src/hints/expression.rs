@@ -1,7 +1,7 @@
 //! Numbers 12, 13, 14 and 16: what is wrong with an expression.
 
 use super::fields::{quoted, Field};
-use super::form::{is_name_byte, lone_letter, long_name, NAMES_HAVE, NO_COMMENTS, WINDOWS_END};
+use super::form::{is_comment, is_name_byte, lone_letter, long_name, NAMES_HAVE, NO_COMMENTS, WINDOWS_END};
 use super::names::{unknown, Need};
 use super::walk::{Walk, Wrong, MOST_BRACKETS};
 use super::{Fault, Hint};
@@ -64,13 +64,14 @@ fn own_words(text: &[u8], place: usize, wrong: &Wrong, open: usize) -> Option<St
     let before = place.checked_sub(1).map(|i| text[i]);
     Some(match text[place] {
         b'\r' if place + 1 == text.len() => WINDOWS_END.into(),
+        b' ' | b'\t' if is_comment(text[place..].trim_ascii_start()) => NO_COMMENTS.into(),
         b' ' => "a blank; expressions have none".into(),
         b'\t' => "a tab; expressions have none".into(),
         b'#' => NO_COMMENTS.into(),
         b'A'..=b'Z' => format!("a capital letter; {NAMES_HAVE}"),
         128.. => format!("a byte over 127; {NAMES_HAVE}"),
-        b'|' => "\"|\" is no operator; + joins two tables".into(),
-        b'!' => "\"!\" is no operator; - takes accesses away".into(),
+        b'|' => "\"|\" is no operator; write + for \"or\"".into(),
+        b'!' => "\"!\" is no operator; write - for \"but not\"".into(),
         order @ (b'<' | b'>') if before == Some(b'=') => format!("write {0}= for ={0}", order as char),
         b'[' if operator_due => "\"[\" without ^; a scope is written ^[..]".into(),
         b')' if operator_due && open == 0 => "\")\" closes no bracket".into(),

@@ -5,7 +5,9 @@ use super::{Fault, Hint};
 
 pub const LONGEST_NAME: usize = 24;
 pub const NAMES_HAVE: &str = "names have a to z, 0 to 9 and _";
-const KINDS: &str = "a line begins with S, O, A, P, T, G, R, B or E and a comma";
+/// The kinds in the order of their groups; R and B are one group.
+pub const KINDS: &[u8] = b"SOAPTGRBE";
+const BODY_WORDS: &[&str] = &["grant", "has", "le", "ge", "lt", "gt", "eq"];
 pub const WINDOWS_END: &str = "the line ends with CR LF, as files from Windows do; close it with LF alone";
 pub const NO_COMMENTS: &str = "the language has no comments";
 
@@ -35,9 +37,9 @@ impl Form {
     fn of(fields: &[Field]) -> Option<Form> {
         use Role::*;
         let (written, roles): (_, &[Role]) = match fields[0].text {
-            b"S" => ("S,name,parent", &[Name, Parent]),
-            b"O" => ("O,name,parent", &[Name, Parent]),
-            b"A" => ("A,name,parent", &[Name, Parent]),
+            b"S" => ("S,name,parent with - for no parent", &[Name, Parent]),
+            b"O" => ("O,name,parent with - for no parent", &[Name, Parent]),
+            b"A" => ("A,name,parent with - for no parent", &[Name, Parent]),
             b"P" => ("P,sort,predicate,member", &[Sort, Name, Name]),
             b"T" => ("T,table,here or T,table,away", &[Name, State]),
             b"G" => ("G,table,subject,object,action", &[Name, Name, Name, Name]),
@@ -66,7 +68,8 @@ pub fn hint(fault: &Fault) -> Option<Hint> {
     let fields = fault.fields();
     byte_order_mark(fault)
         .or_else(|| end_of_line(fault.line))
-        .or_else(|| strange_kind(fault.line, fields[0]))
+        .or_else(|| comment(fault.line))
+        .or_else(|| strange_kind(fields[0].text))
         .or_else(|| field_count(fault.line, &fields))
         .or_else(|| first_bad_field(&fields))
 }
@@ -91,33 +94,40 @@ fn byte_order_mark(fault: &Fault) -> Option<Hint> {
 }
 
 fn end_of_line(line: &[u8]) -> Option<Hint> {
-    match line {
-        [] => Some(Hint::new(0, "an empty line")),
-        [before @ .., b'\r'] => Some(Hint::new(before.len(), WINDOWS_END)),
-        _ => None,
+    if line.is_empty() {
+        return Some(Hint::new(0, "an empty line"));
     }
+    let at = line.iter().position(|&b| b == b'\r')?;
+    let last = at + 1 == line.len();
+    Some(Hint::new(at, if last { WINDOWS_END } else { "a CR within the line; lines are closed by LF alone" }))
 }
 
-fn strange_kind(line: &[u8], kind: Field) -> Option<Hint> {
-    let text = kind.text;
-    if Form::of(&[kind]).is_some() {
-        return None;
-    }
-    if comment_sign(line) || matches!(line[0], b';' | b'%') || line.starts_with(b"--") {
+/// A comment at the beginning of a line, or behind a blank or a comma. E lines are left to their expression.
+fn comment(line: &[u8]) -> Option<Hint> {
+    if [&b";"[..], b"%", b"--"].iter().any(|sign| line.starts_with(sign)) {
         return Some(Hint::new(0, NO_COMMENTS));
     }
+    let parted = |at: usize| at == 0 || matches!(line[at - 1], b' ' | b'\t' | b',');
+    let at = (0..line.len()).find(|&at| parted(at) && is_comment(&line[at..]))?;
+    (!line.starts_with(b"E,")).then(|| Hint::new(at, NO_COMMENTS))
+}
+
+pub fn is_comment(text: &[u8]) -> bool {
+    [&b"#"[..], b"//", b"/*"].iter().any(|sign| text.starts_with(sign))
+}
+
+fn strange_kind(text: &[u8]) -> Option<Hint> {
+    let unknown = || format!("unknown kind {}; a line begins with S, O, A, P, T, G, R, B or E and a comma", quoted(text));
     match text {
         [] => Some(Hint::new(0, "an empty field; the kind of the line is missing")),
-        [small @ b'a'..=b'z'] if Form::of(&[Field { at: 0, text: &[small.to_ascii_uppercase()] }]).is_some() => {
-            Some(Hint::new(0, format!("the kind is a capital letter: {}", small.to_ascii_uppercase() as char)))
+        [kind] if KINDS.contains(kind) => None,
+        [kind] if KINDS.contains(&kind.to_ascii_uppercase()) => {
+            Some(Hint::new(0, format!("the kind is a capital letter: {}", kind.to_ascii_uppercase() as char)))
         }
-        [b'S' | b'O' | b'A' | b'P' | b'T' | b'G' | b'R' | b'B' | b'E', b' ' | b'\t' | b';' | b'|' | b':', ..] => {
+        [kind, b' ' | b'\t' | b';' | b'|' | b':', ..] if KINDS.contains(kind) => {
             Some(Hint::new(1, "the fields of a line are parted by commas, without blanks"))
         }
-        _ => {
-            let at = text.iter().position(|b| !b.is_ascii_alphanumeric()).unwrap_or(0);
-            Some(Hint::new(at, bad_byte(text[at], text).unwrap_or_else(|| format!("unknown kind {}; {KINDS}", quoted(text)))))
-        }
+        _ => Some(first_strange(text).unwrap_or_else(|| Hint::new(0, unknown()))),
     }
 }
 
@@ -139,50 +149,57 @@ fn field_count(line: &[u8], fields: &[Field]) -> Option<Hint> {
 
 fn first_bad_field(fields: &[Field]) -> Option<Hint> {
     let form = Form::of(fields)?;
-    let fault = |(field, &role): (&Field, &Role)| bad_field(field.text, role).map(|(at, words)| Hint::new(field.at + at, words));
-    fields[1..].iter().zip(form.roles).find_map(fault)
+    let bad = |(field, &role): (&Field, &Role)| bad_field(field.text, role).map(|hint| hint.from(field.at));
+    fields[1..].iter().zip(form.roles).find_map(bad)
 }
 
-/// What is wrong with a field, and at which of its bytes.
-fn bad_field(text: &[u8], role: Role) -> Option<(usize, String)> {
+/// What is wrong with a field.
+fn bad_field(text: &[u8], role: Role) -> Option<Hint> {
     if text.is_empty() {
         let words = if matches!(role, Role::Expression) { "the expression is empty" } else { "an empty field" };
-        return Some((0, words.into()));
+        return Some(Hint::new(0, words));
     }
     match role {
         Role::Name => bad_name(text),
         Role::Parent if text == b"-" => None,
-        Role::Parent if text[0] == b'-' => Some((1, bad_byte(text[1], text).unwrap_or_else(|| not_a_name(text)))),
+        Role::Parent if text[0] == b'-' => Some(bad_byte(1, text)),
         Role::Parent => bad_name(text),
-        Role::Sort if matches!(text, b"S" | b"O" | b"A") => None,
-        Role::Sort => Some((0, format!("{} is no sort; the sorts are S, O and A, in capitals", quoted(text)))),
-        Role::State if matches!(text, b"here" | b"away") => None,
-        Role::State => Some((0, format!("{} is neither here nor away", quoted(text)))),
-        Role::Word if matches!(text, b"grant" | b"has" | b"le" | b"ge" | b"lt" | b"gt" | b"eq") => None,
-        Role::Word => Some((0, format!("{} is none of grant, le, ge, lt, gt, eq and has", quoted(text)))),
-        Role::Term if text[0] == b'?' => bad_variable(text),
+        Role::Sort => bad_word(text, &["S", "O", "A"], "no sort; the sorts are S, O and A, in capitals"),
+        Role::State => bad_word(text, &["here", "away"], "neither here nor away"),
+        Role::Word => bad_word(text, BODY_WORDS, "none of grant, has, le, ge, lt, gt and eq"),
+        Role::Term if text[0] == b'?' => bad_word(text, &["?0", "?1", "?2", "?3"], "no variable; there are ?0, ?1, ?2 and ?3"),
         Role::Term => bad_name(text),
         Role::Limit => bad_limit(text),
         Role::Expression => None,
     }
 }
 
-fn bad_name(text: &[u8]) -> Option<(usize, String)> {
+fn bad_word(text: &[u8], words: &[&str], is: &str) -> Option<Hint> {
+    if words.iter().any(|word| word.as_bytes() == text) {
+        return None;
+    }
+    let small = words.iter().find(|word| word.as_bytes() == text.to_ascii_lowercase());
+    let plain = || match small {
+        Some(word) => Hint::new(0, format!("{} has a capital letter; write {word}", quoted(text))),
+        None => Hint::new(0, format!("{} is {is}", quoted(text))),
+    };
+    Some(first_strange(text).unwrap_or_else(plain))
+}
+
+fn bad_name(text: &[u8]) -> Option<Hint> {
     if text == b"-" {
-        return Some((0, "\"-\" may stand only for a parent, in S, O and A lines".into()));
+        return Some(Hint::new(0, "\"-\" may stand only for a parent, in S, O and A lines"));
     }
     if text[0] == b'?' {
-        return Some((0, format!("{} is no name; variables may stand only in rules", quoted(text))));
+        return Some(Hint::new(0, format!("{} is no name; variables may stand only in rules", quoted(text))));
     }
     if text[0].is_ascii_digit() || text[0] == b'_' {
-        return Some((0, format!("{} does not begin with a letter, as names do", quoted(text))));
+        return Some(Hint::new(0, format!("{} does not begin with a letter, as names do", quoted(text))));
     }
-    let strange = text.iter().position(|&b| !is_name_byte(b));
-    match strange {
-        Some(at) if at < LONGEST_NAME => Some((at, bad_byte(text[at], text).unwrap_or_else(|| not_a_name(text)))),
-        _ if text.len() > LONGEST_NAME => Some((LONGEST_NAME, long_name(text))),
-        _ if is_lone_letter(text) => Some((0, lone_letter(text))),
-        _ => None,
+    match text.iter().position(|&b| !is_name_byte(b)) {
+        Some(at) if at < LONGEST_NAME => Some(bad_byte(at, text)),
+        _ if text.len() > LONGEST_NAME => Some(Hint::new(LONGEST_NAME, long_name(text))),
+        _ => is_lone_letter(text).then(|| Hint::new(0, lone_letter(text))),
     }
 }
 
@@ -203,52 +220,44 @@ pub fn long_name(text: &[u8]) -> String {
     format!("{} has {} bytes; names have at most {LONGEST_NAME}", quoted(text), text.len())
 }
 
-fn not_a_name(text: &[u8]) -> String {
-    format!("{} is no name; {NAMES_HAVE}", quoted(text))
+/// A byte of the text that stands in no name.
+fn bad_byte(at: usize, text: &[u8]) -> Hint {
+    if let Some(words) = strange(text[at]) {
+        return Hint::new(at, words);
+    }
+    let what = match text[at] {
+        b'A'..=b'Z' => "has a capital letter",
+        128.. => "has a byte over 127",
+        0..=31 | 127 => "has a control byte",
+        _ => "is no name",
+    };
+    Hint::new(at, format!("{} {what}; {NAMES_HAVE}", quoted(text)))
 }
 
-/// Words for a byte that stands in no name and no kind, where there is more to say than that.
-pub fn bad_byte(byte: u8, text: &[u8]) -> Option<String> {
-    Some(match byte {
-        b' ' | b'\t' if comment_sign(after_blanks(text)) => NO_COMMENTS.into(),
-        b' ' => "a blank; lines have none".into(),
-        b'\t' => "a tab; lines have none".into(),
-        b'A'..=b'Z' => format!("a capital letter in {}; {NAMES_HAVE}", quoted(text)),
-        b'"' | b'\'' => "a quotation mark; fields are not quoted".into(),
-        b'#' => NO_COMMENTS.into(),
-        0 => "a byte 0; if the file is UTF-16, save it as plain ASCII".into(),
-        1..=31 | 127 => format!("a control byte in {}; {NAMES_HAVE}", quoted(text)),
-        128.. => format!("a byte over 127 in {}; {NAMES_HAVE}", quoted(text)),
-        _ => return None,
-    })
+/// The first byte of the text that no field has, whatever it is.
+fn first_strange(text: &[u8]) -> Option<Hint> {
+    text.iter().zip(0..).find_map(|(&byte, at)| Some(Hint::new(at, strange(byte)?)))
 }
 
-fn comment_sign(text: &[u8]) -> bool {
-    text.starts_with(b"#") || text.starts_with(b"//")
-}
-
-/// What follows the first blanks in the text.
-fn after_blanks(text: &[u8]) -> &[u8] {
-    let blank = |b: &u8| matches!(b, b' ' | b'\t');
-    let first = text.iter().position(blank).unwrap_or(text.len());
-    text[first..].trim_ascii_start()
-}
-
-fn bad_variable(text: &[u8]) -> Option<(usize, String)> {
-    match text {
-        [b'?', b'0'..=b'3'] => None,
-        _ => Some((0, format!("{} is no variable; there are ?0, ?1, ?2 and ?3", quoted(text)))),
+/// Words for a byte that no field has, whatever it is.
+fn strange(byte: u8) -> Option<&'static str> {
+    match byte {
+        b' ' => Some("a blank; lines have none"),
+        b'\t' => Some("a tab; lines have none"),
+        b'"' | b'\'' => Some("a quotation mark; fields are not quoted"),
+        0 => Some("a byte 0; if the file is UTF-16, save it as plain ASCII"),
+        _ => None,
     }
 }
 
-fn bad_limit(text: &[u8]) -> Option<(usize, String)> {
+fn bad_limit(text: &[u8]) -> Option<Hint> {
     const MOST_DIGITS: usize = 4;
-    let strange = text.iter().position(|b| !b.is_ascii_digit());
-    let at = match strange {
+    let at = match text.iter().position(|b| !b.is_ascii_digit()) {
         Some(at) => at,
         None if text.len() > 1 && text[0] == b'0' => 0,
         None if text.len() > MOST_DIGITS => MOST_DIGITS,
         None => return None,
     };
-    Some((at, format!("{} is no limit; it is a number from 0 to 4096 without a leading zero", quoted(text))))
+    let plain = || Hint::new(at, format!("{} is no limit; it is a number from 0 to 4096 without a leading zero", quoted(text)));
+    Some(first_strange(text).unwrap_or_else(plain))
 }

@@ -7,6 +7,8 @@ mod fields;
 mod form;
 mod names;
 mod show;
+#[cfg(test)]
+mod tests;
 mod walk;
 
 use crate::calls::{refusal_line, Refusal};
@@ -24,6 +26,11 @@ struct Hint {
 impl Hint {
     fn new(at: usize, words: impl Into<String>) -> Hint {
         Hint { at, words: words.into() }
+    }
+
+    /// The same, of a text that begins at this byte of the line.
+    fn from(self, start: usize) -> Hint {
+        Hint { at: start + self.at, ..self }
     }
 }
 
