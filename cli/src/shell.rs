@@ -92,7 +92,7 @@ impl Shell {
 
     /// At most so many bytes of a file.
     pub fn read(&mut self, path: &OsStr, most: usize) -> Result<Source, Stop> {
-        let name = path.to_string_lossy().into_owned();
+        let name = if path == "-" { "standard input".into() } else { path.to_string_lossy().into_owned() };
         let mut bytes = Vec::new();
         let read = if path == "-" {
             if self.input_taken {
@@ -104,7 +104,7 @@ impl Shell {
             File::open(path).and_then(|file| file.take(most as u64).read_to_end(&mut bytes))
         };
         match read {
-            Ok(_) => Ok(Source { path: if path == "-" { "standard input".into() } else { name }, bytes }),
+            Ok(_) => Ok(Source { path: name, bytes }),
             Err(error) => Err(Stop::Failed(format!("{}: cannot be read: {}", escaped(name.as_bytes()), reason(&error)))),
         }
     }

@@ -22,14 +22,9 @@ struct Said {
 
 /// What would decide the access, in lines; the file is accepted and its answer undecided.
 pub fn what_decides(file: &[u8], names: [&[u8]; 3]) -> Vec<String> {
-    let Some(question) = Question::of(file, names) else { return Vec::new() };
-    let away = question.away();
-    let mut said: Vec<Said> = away.iter().filter_map(|&list| question.alone(list)).collect();
-    said.extend(question.limit_alone());
-    for limit in [question.goal.limit, HIGHEST_LIMIT] {
-        if !said.iter().any(|said| said.decides) {
-            said.extend([Supply::Full, Supply::Empty].into_iter().filter_map(|supply| question.together(&away, supply, limit)));
-        }
+    let said = Question::of(file, names).map_or(Vec::new(), |question| question.findings());
+    if said.is_empty() {
+        return vec!["what would decide it could not be tried: the file has no room for it".into()];
     }
     said.into_iter().map(|said| said.line).collect()
 }
@@ -47,6 +42,19 @@ impl<'a> Question<'a> {
         let mut outline = Outline::of(file);
         let goal = outline.goal.take()?;
         Some(Question { text: std::str::from_utf8(file).ok()?, outline, goal, names })
+    }
+
+    /// Each list alone, then the limit alone; where these do not decide it, lists together, and last with a higher limit.
+    fn findings(&self) -> Vec<Said> {
+        let away = self.away();
+        let mut said: Vec<Said> = away.iter().filter_map(|&list| self.alone(list)).collect();
+        said.extend(self.limit_alone());
+        for limit in [self.goal.limit, HIGHEST_LIMIT] {
+            if !away.is_empty() && !said.iter().any(|said| said.decides) {
+                said.extend([Supply::Full, Supply::Empty].into_iter().filter_map(|supply| self.together(&away, supply, limit)));
+            }
+        }
+        said
     }
 
     /// The lists that are away and whose names stand in the expression; no other can matter.
