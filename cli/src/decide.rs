@@ -16,6 +16,8 @@ pub fn run(arguments: &[OsString], shell: &mut Shell) -> Result<Status, Stop> {
         Err(refusal) => return refused_ask(shell, &source, refusal, names),
     };
     shell.print(&format!("{},{}", decision.answer.number(), decision.rounds))?;
+    // The answer goes out first: finding what would decide it may take long.
+    shell.finish()?;
     shell.explain(&in_words(decision.answer, names));
     Ok(match decision.answer {
         Answer::Permit => Status::Good,

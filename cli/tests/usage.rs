@@ -125,14 +125,9 @@ fn huge_input() {
     assert_eq!((ran.status, ran.out.as_str()), (3, "refused,2,0,0\n"));
 }
 
-/// Subcommands with what they say on standard error when their output can be written.
-fn writers(long: &Scratch) -> [(Vec<&str>, &'static str); 4] {
-    [
-        (vec!["list", long.path()], ""),
-        (vec!["check", GOOD], ""),
-        (vec!["decide", GOOD, "nurse", "wk3", "write"], "permit: nurse may write wk3\n"),
-        (vec!["--help"], ""),
-    ]
+/// Subcommands that write, the first more than a pipe holds.
+fn writers(long: &Scratch) -> [Vec<&str>; 4] {
+    [vec!["list", long.path()], vec!["check", GOOD], vec!["decide", GOOD, "nurse", "wk3", "write"], vec!["--help"]]
 }
 
 /// Status and standard error with this as standard output.
@@ -144,10 +139,10 @@ fn writing_to(arguments: &[&str], output: impl Into<Stdio>) -> (Option<i32>, Str
 #[test]
 fn a_closed_pipe() {
     let long = with_long_listing("pipe.pol");
-    for (arguments, words) in writers(&long) {
+    for arguments in writers(&long) {
         let (reader, writer) = std::io::pipe().expect("a pipe");
         drop(reader);
-        assert_eq!(writing_to(&arguments, writer), (Some(2), words.to_string()), "{arguments:?}");
+        assert_eq!(writing_to(&arguments, writer), (Some(2), String::new()), "{arguments:?}");
     }
 }
 
@@ -173,9 +168,9 @@ fn a_reader_who_leaves_after_one_line() {
 #[test]
 fn a_full_disk() {
     let long = with_long_listing("disk.pol");
-    for (arguments, words) in writers(&long) {
+    for arguments in writers(&long) {
         let full = File::options().write(true).open("/dev/full").expect("/dev/full opens");
-        let words = format!("{words}snowdell: the output cannot be written: No space left on device\n");
-        assert_eq!(writing_to(&arguments, full), (Some(2), words), "{arguments:?}");
+        let words = "snowdell: the output cannot be written: No space left on device\n";
+        assert_eq!(writing_to(&arguments, full), (Some(2), words.to_string()), "{arguments:?}");
     }
 }

@@ -85,24 +85,24 @@ pub fn refused_ask(shell: &mut Shell, source: &Source, refusal: Refusal, names: 
 
 /// Where the fault stands and what may be meant, on standard error.
 pub fn explain(shell: &mut Shell, source: &Source, refusal: Refusal) {
-    let path = escaped(source.path.as_bytes());
-    let number = refusal.number;
-    let Some(fault) = Fault::of(&source.bytes, refusal.line) else {
-        shell.explain(&format!("{path}: refused {number}: {}", of_file(&source.bytes, number)));
-        if let Some((line, at)) = cut_off(&source.bytes, number) {
-            show_line(shell, line, at);
-        }
-        return;
-    };
-    let hint = look(&fault, refusal).unwrap_or_else(|| Hint::new(0, plain(number)));
-    shell.explain(&format!("{path}:{}:{}: refused {number}: {}", refusal.line, hint.at + 1, hint.words));
-    show_line(shell, fault.line, hint.at);
+    for line in explanation(source, refusal) {
+        shell.explain(&line);
+    }
 }
 
-fn show_line(shell: &mut Shell, line: &[u8], at: usize) {
-    for shown in show::with_caret(line, at) {
-        shell.explain(&shown);
-    }
+/// A line with path, place, number and words; then the source line and a caret under the fault, where there is one.
+fn explanation(source: &Source, refusal: Refusal) -> Vec<String> {
+    let (file, number) = (&source.bytes[..], refusal.number);
+    let path = escaped(source.path.as_bytes());
+    let Some(fault) = Fault::of(file, refusal.line) else {
+        let mut lines = vec![format!("{path}: refused {number}: {}", of_file(file, number))];
+        lines.extend(cut_off(file, number).into_iter().flat_map(|last| show::with_caret(last, last.len())));
+        return lines;
+    };
+    let hint = look(&fault, refusal).unwrap_or_else(|| Hint::new(0, plain(number)));
+    let mut lines = vec![format!("{path}:{}:{}: refused {number}: {}", fault.number, hint.at + 1, hint.words)];
+    lines.extend(show::with_caret(fault.line, hint.at));
+    lines
 }
 
 /// The cause of a refusal at a line, if the second look finds it.
@@ -165,8 +165,8 @@ fn not_closed(file: &[u8], last: u8) -> String {
     }
 }
 
-/// The last line and its end, for a file that is refused because it is not closed.
-fn cut_off(file: &[u8], number: usize) -> Option<(&[u8], usize)> {
-    let line = lines(file).last()?;
-    (number == 2 && !file.is_empty() && file.len() <= LONGEST_POLICY).then_some((line, line.len()))
+/// The last line of a file that is refused because it is not closed.
+fn cut_off(file: &[u8], number: usize) -> Option<&[u8]> {
+    let not_closed = number == 2 && !file.is_empty() && file.len() <= LONGEST_POLICY;
+    lines(file).last().filter(|_| not_closed)
 }
