@@ -374,6 +374,7 @@ fn names_in_expressions() {
         ("forms^[laeve(s)]", "13: refused 13: no predicate \"laeve\" of subjects; did you mean \"leave\"?"),
         ("forms^[leave(o)]", "13: refused 13: \"leave\" is a predicate of subjects, not a predicate of objects"),
         ("(t:ours.our)(forms)", "14: refused 13: no table \"our\"; did you mean \"ours\"?"),
+        ("(t:ours.ours)(our)", "20: refused 13: no table \"our\""),
         ("(t:x.x)(forms)+x", "21: refused 13: no table \"x\"; a template's name stands only within its first brackets"),
     ];
     for (expression, expected) in cases {
@@ -393,7 +394,9 @@ fn expressions_that_are_too_large() {
     assert_eq!(of_expression(&right), format!(":8:104: refused 14: 16 sets would be held at once; {sets}"));
     assert_eq!(of_expression(&override_), format!(":8:104: refused 14: 15 sets would be held at once; {sets}"));
     assert_eq!(of_expression(&templates), ":8:26: refused 16: 5 templates stand one within the other; there may be at most 4");
-    assert_eq!(filled.len(), 140, "templates in second brackets hold no more");
+    let one_before = format!("(t:x.x)(forms)+{templates}");
+    assert_eq!(of_expression(&one_before), ":8:41: refused 16: 5 templates stand one within the other; there may be at most 4");
+    // Templates in second brackets do not add up.
     let good = format!("{MEMBERS}T,forms,here\nE,10,{filled}\n");
     assert_eq!(snowdell_with(&["check", "-"], good.as_bytes()).out, "ok,1,1,1\n");
 }

@@ -194,6 +194,16 @@ fn a_full_list_that_cannot_be_tried() {
             "ward and kitchen together: deny if they bring none".into(),
         ]
     );
+    let five = "T,staff,here\nT,b1,away\nT,b2,away\nT,b3,away\nT,b4,away\nT,b5,away\nG,staff,m0,m0,read\n";
+    let rules = "R,down,ann,wk3,read\nB,grant,m1,m1,read\nR,down,m1,m1,read\nB,grant,m0,m0,read\n";
+    let both = "(staff*down&(b1+b2)&(b3+b4+b5))+(staff*down-(b1+b2))";
+    assert_eq!(
+        what_decides(&crowd(five, rules, &format!("1,{both}"))),
+        [
+            "b1, b2, b3, b4 and b5 together: a list with every access could not be tried",
+            "b1 and b2 together: permit if they bring none and the limit is at least 2",
+        ]
+    );
 }
 
 #[test]

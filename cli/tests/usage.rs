@@ -83,7 +83,7 @@ fn files_that_cannot_be_read() {
 fn a_file_without_the_right_to_read_it() {
     use std::os::unix::fs::PermissionsExt;
     let secret = Scratch::new("secret.pol", text(GOOD).as_bytes());
-    std::fs::set_permissions(secret.path(), std::fs::Permissions::from_mode(0)).expect("the mode is set");
+    std::fs::set_permissions(secret.path(), std::fs::Permissions::from_mode(0o000)).expect("the mode is set");
     if File::open(secret.path()).is_ok() {
         eprintln!("not tried: this user may read every file");
         return;

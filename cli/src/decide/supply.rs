@@ -6,6 +6,7 @@ use crate::outline::{Goal, Outline};
 use crate::shell::{joined, LONGEST_POLICY};
 
 const HIGHEST_LIMIT: usize = 4096;
+const NOT_TRIED: &str = "a list with every access could not be tried";
 
 /// What a list brings: no access, or every one.
 #[derive(Clone, Copy, PartialEq, Eq)]
@@ -54,6 +55,8 @@ impl<'a> Question<'a> {
                 said.extend([Supply::Full, Supply::Empty].into_iter().filter_map(|supply| self.together(&away, supply, limit)));
             }
         }
+        // That full lists could not be tried may have been met at both limits.
+        said.dedup_by(|one, other| one.line == other.line);
         said
     }
 
@@ -66,13 +69,14 @@ impl<'a> Question<'a> {
 
     /// What one list would do while the others stay away, if it would do anything.
     fn alone(&self, list: usize) -> Option<Said> {
-        let [full, empty] = [Supply::Full, Supply::Empty].map(|supply| self.ask(&[list], supply, self.goal.limit));
-        let decides = [full, empty].into_iter().flatten().any(is_decided);
+        let empty = self.ask(&[list], Supply::Empty, self.goal.limit)?;
+        let full = self.ask(&[list], Supply::Full, self.goal.limit);
+        let decides = is_decided(empty) || full.is_some_and(is_decided);
         if !decides && full.is_some() {
             return None;
         }
-        let full = full.map_or(not_tried(), |answer| if_it_brings(answer, Supply::Full));
-        let empty = empty.map_or(String::new(), |answer| if_it_brings(answer, Supply::Empty));
+        let full = full.map_or(NOT_TRIED.into(), |answer| if_they_bring(answer, Supply::Full, 1));
+        let empty = if_they_bring(empty, Supply::Empty, 1);
         Some(Said { line: format!("{}: {full}; {empty}", self.outline.tables[list].name), decides })
     }
 
@@ -84,12 +88,13 @@ impl<'a> Question<'a> {
 
     /// Lists that decide it together, none of them superfluous.
     fn together(&self, away: &[usize], supply: Supply, limit: usize) -> Option<Said> {
-        let Some(answer) = self.ask(away, supply, limit) else {
-            return Some(Said { line: format!("{}: {}", self.called(away), not_tried()), decides: false });
+        let answer = match self.ask(away, supply, limit) {
+            Some(answer) if is_decided(answer) => answer,
+            None if supply == Supply::Full => {
+                return Some(Said { line: format!("{}: {NOT_TRIED}", self.called(away)), decides: false });
+            }
+            _ => return None,
         };
-        if !is_decided(answer) {
-            return None;
-        }
         let mut lists = away.to_vec();
         for list in away {
             let fewer: Vec<usize> = lists.iter().copied().filter(|other| other != list).collect();
@@ -200,10 +205,6 @@ fn is_decided(answer: Answer) -> bool {
     answer != Answer::Undecided
 }
 
-fn if_it_brings(answer: Answer, supply: Supply) -> String {
-    if_they_bring(answer, supply, 1)
-}
-
 fn if_they_bring(answer: Answer, supply: Supply, lists: usize) -> String {
     let still = if is_decided(answer) { "" } else { "still " };
     let brings = if lists == 1 { "it brings" } else { "they bring" };
@@ -212,8 +213,4 @@ fn if_they_bring(answer: Answer, supply: Supply, lists: usize) -> String {
         Supply::Full => "every access",
     };
     format!("{still}{} if {brings} {what}", answer.word())
-}
-
-fn not_tried() -> String {
-    "a list with every access could not be tried".into()
 }
