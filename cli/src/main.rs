@@ -15,7 +15,7 @@ mod table;
 mod test;
 mod why;
 
-use shell::{Shell, Status, Stop};
+use shell::{escaped, Shell, Status, Stop};
 use std::ffi::OsString;
 use std::process::ExitCode;
 
@@ -65,7 +65,7 @@ fn run(arguments: &[OsString], shell: &mut Shell) -> Result<Status, Stop> {
         Some("table") => table::run(rest, shell),
         Some("help" | "--help" | "-h") => help(shell),
         Some("--version" | "version") => version(shell),
-        _ => Err(Stop::Usage(format!("no subcommand {:?}", subcommand.to_string_lossy()))),
+        _ => Err(Stop::Usage(format!("no subcommand \"{}\"", escaped(subcommand.as_encoded_bytes())))),
     }
 }
 
