@@ -13,6 +13,7 @@ mod outline;
 mod shell;
 mod table;
 mod test;
+mod tree;
 mod why;
 
 use shell::{escaped, Shell, Status, Stop};

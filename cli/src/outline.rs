@@ -41,6 +41,37 @@ pub struct Member<'a> {
 pub struct Predicate<'a> {
     pub sort: Sort,
     pub name: &'a str,
+    /// The members listed, by number, each once.
+    pub members: Vec<usize>,
+}
+
+/// How two members of a sort are compared, in rules and in scopes.
+#[derive(Clone, Copy, Debug, PartialEq, Eq)]
+pub enum Comparison {
+    Le,
+    Ge,
+    Lt,
+    Gt,
+    Eq,
+}
+
+impl Comparison {
+    /// By the word that a B line has for it, or by the sign that a scope has.
+    pub fn of(text: &str) -> Option<Comparison> {
+        match text {
+            "le" | "<=" => Some(Comparison::Le),
+            "ge" | ">=" => Some(Comparison::Ge),
+            "lt" | "<" => Some(Comparison::Lt),
+            "gt" | ">" => Some(Comparison::Gt),
+            "eq" | "=" => Some(Comparison::Eq),
+            _ => None,
+        }
+    }
+
+    /// The word that a B line has for it.
+    pub fn word(self) -> &'static str {
+        ["le", "ge", "lt", "gt", "eq"][self as usize]
+    }
 }
 
 pub struct Table<'a> {
@@ -126,6 +157,20 @@ impl<'a> Outline<'a> {
         false
     }
 
+    pub fn compares(&self, sort: Sort, comparison: Comparison, x: usize, y: usize) -> bool {
+        match comparison {
+            Comparison::Le => self.le(sort, x, y),
+            Comparison::Ge => self.le(sort, y, x),
+            Comparison::Lt => x != y && self.le(sort, x, y),
+            Comparison::Gt => x != y && self.le(sort, y, x),
+            Comparison::Eq => x == y,
+        }
+    }
+
+    pub fn predicate(&self, sort: Sort, name: &str) -> Option<usize> {
+        self.predicates.iter().position(|p| p.sort == sort && p.name == name)
+    }
+
     /// How many members stand above this one.
     pub fn depth(&self, sort: Sort, member: usize) -> usize {
         std::iter::successors(self.members[sort as usize][member].parent, |&m| self.members[sort as usize][m].parent).count()
@@ -142,10 +187,13 @@ impl<'a> Outline<'a> {
                 self.members[sort as usize].push(Member { name, parent, line: number });
             }
             "P" => {
-                let [sort, name, _] = fields[..] else { return None };
+                let [sort, name, member] = fields[..] else { return None };
                 let sort = Sort::of(sort)?;
-                if !self.predicates.iter().any(|p| p.sort == sort && p.name == name) {
-                    self.predicates.push(Predicate { sort, name });
+                let member = self.member(sort, member)?;
+                match self.predicate(sort, name) {
+                    None => self.predicates.push(Predicate { sort, name, members: vec![member] }),
+                    Some(known) if self.predicates[known].members.contains(&member) => {}
+                    Some(known) => self.predicates[known].members.push(member),
                 }
             }
             "T" => {

@@ -1,8 +1,0 @@
-//! `snowdell why`.
-
-use crate::shell::{Shell, Status, Stop};
-use std::ffi::OsString;
-
-pub fn run(_arguments: &[OsString], _shell: &mut Shell) -> Result<Status, Stop> {
-    Err(Stop::Failed("why is not there yet".into()))
-}
