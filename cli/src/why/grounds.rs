@@ -13,6 +13,9 @@ use std::collections::{BTreeMap, BTreeSet};
 /// A part and an access.
 type Ground = (usize, usize);
 
+/// A part and the answer that it counts for.
+type Counted = (usize, Answer);
+
 /// A closure that permits something, with how each access that it permits on the way came in.
 pub struct Derivation {
     pub closure: usize,
@@ -63,30 +66,22 @@ impl<'a> Grounds<'a> {
 
     /// What a ground rests on in turn.
     fn below(&mut self, (part, access): Ground) -> Result<Vec<Ground>, Stop> {
-        let (tree, parts) = (&self.case.tree, self.parts);
-        let answer = |part: usize| parts.answer(part, access);
-        let made_of = tree.answers_from(part);
-        let forced = match tree.parts[part].form {
-            Form::Closure(_) if answer(part) == Answer::Permit => return self.derived(part, access),
+        let case = self.case;
+        let counted = |part: usize| (part, self.parts.answer(part, access));
+        let (_, answer) = counted(part);
+        let made_of: Vec<Counted> = case.tree.answers_from(part).into_iter().map(counted).collect();
+        let forced = match case.tree.parts[part].form {
+            Form::Closure(_) if answer == Answer::Permit => return self.derived(part, access),
             // What a closure does not permit is said by no part of its operand alone.
             Form::Closure(_) => Vec::new(),
-            Form::Scope(scope) if scope.holds(&self.case.outline, self.case.members(access)) != Some(true) => Vec::new(),
-            Form::Join(Sign::Minus) => {
-                forcing(answer(part), &[(made_of[0], answer(made_of[0])), taken(made_of[1], answer(made_of[1]))])
-            }
+            Form::Scope(scope) if scope.holds(&case.outline, case.members(access)) != Some(true) => Vec::new(),
+            Form::Join(Sign::Minus) => forcing(answer, &[made_of[0], taken(made_of[1])]),
             Form::Override => {
-                let [first, second, third] = [0, 1, 2].map(|i| made_of[i]);
-                let kept = [(first, answer(first)), taken(third, answer(third))];
-                let instead = [(second, answer(second)), (third, answer(third))];
-                let mut forced = Vec::new();
-                for side in [kept, instead] {
-                    if side[0].1.min(side[1].1) == answer(part) {
-                        forced.extend(forcing(answer(part), &side));
-                    }
-                }
-                forced
+                let sides = [[made_of[0], taken(made_of[2])], [made_of[1], made_of[2]]];
+                let carrying = sides.iter().filter(|[(_, one), (_, other)]| *one.min(other) == answer);
+                carrying.flat_map(|side| forcing(answer, side)).collect()
             }
-            _ => forcing(answer(part), &made_of.iter().map(|&below| (below, answer(below))).collect::<Vec<_>>()),
+            Form::Name(_) | Form::Join(_) | Form::Scope(_) | Form::Template(_) => forcing(answer, &made_of),
         };
         Ok(forced.into_iter().map(|below| (below, access)).collect())
     }
@@ -110,13 +105,13 @@ impl<'a> Grounds<'a> {
     }
 }
 
-/// The parts whose answer, as it counts there, is the answer above.
-fn forcing(above: Answer, counted: &[(usize, Answer)]) -> Vec<usize> {
+/// The parts that count for as much as the answer above.
+fn forcing(above: Answer, counted: &[Counted]) -> Vec<usize> {
     counted.iter().filter(|(_, answer)| *answer == above).map(|(part, _)| *part).collect()
 }
 
-/// How the right of a minus counts: 2 less its answer.
-fn taken(part: usize, answer: Answer) -> (usize, Answer) {
+/// How what is taken out counts: 2 less its answer.
+fn taken((part, answer): Counted) -> Counted {
     let counts = match answer {
         Answer::Deny => Answer::Permit,
         Answer::Undecided => Answer::Undecided,
