@@ -50,7 +50,8 @@ impl<'a> Grounds<'a> {
         // A part stands before those it is made of, and a template's filling behind the places where its name is used.
         for (&closure, rounds) in self.closures.iter_mut().rev() {
             let mut accesses = Vec::new();
-            for &(_, access) in self.met.range((closure, 0)..(closure + 1, 0)) {
+            let met = self.met.range((closure, 0)..(closure + 1, 0)).map(|&(_, access)| access);
+            for access in met.filter(|&access| self.parts.answer(closure, access) == Answer::Permit) {
                 accesses.push((access, rounds.origin(access)?));
             }
             accesses.sort_by_key(|(access, origin)| (origin.round(), *access));

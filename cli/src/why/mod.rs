@@ -101,20 +101,24 @@ fn answer(source: &Source, case: &Case, decision: Decision) -> Said {
     }
 }
 
-/// Says how long it may take, where that is long: each question costs at most what the first one took. That one is asked again
-/// first, since the machine may have been busy.
+/// Says how long it may take, where that is long. The first question is asked again before that is said, since the machine may
+/// have been busy.
 fn announce(case: &Case, tried: &[Tried], took: Duration, shell: &mut Shell) -> Result<(), Stop> {
-    let questions = (parts::questions(case) + limits::questions(case) + tried.len()) as u32;
-    if took * questions <= LONG {
-        return Ok(());
-    }
-    let started = Instant::now();
-    case.at_limit(case.limit)?;
-    let longest = started.elapsed().min(took) * questions;
-    if longest > LONG {
-        shell.explain(&format!("{questions} questions to the engine follow; they may take {} seconds", longest.as_secs()));
+    let questions = parts::questions(case) + limits::questions(case) + tried.len();
+    if announcement(questions, took).is_some() {
+        let started = Instant::now();
+        case.at_limit(case.limit)?;
+        if let Some(words) = announcement(questions, started.elapsed().min(took)) {
+            shell.explain(&words);
+        }
     }
     Ok(())
+}
+
+/// What to say of so many questions that take at most so long each.
+fn announcement(questions: usize, each: Duration) -> Option<String> {
+    let longest = each * questions as u32;
+    (longest > LONG).then(|| format!("{questions} questions to the engine follow; they may take {} seconds.", longest.as_secs()))
 }
 
 /// The engine has accepted the file, so this is a fault in here.
