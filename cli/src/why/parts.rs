@@ -1,4 +1,5 @@
-//! The answers of every part of the expression, each asked of the engine with that part alone in the E line.
+//! The answers of every part of the expression, each asked of the engine with that part alone in the E line. Compose is asked,
+//! since a derivation leads to other accesses too; at the asked one it writes what Decide returns.
 
 use super::case::Case;
 use super::{shortened, Said};

@@ -4,7 +4,7 @@
 use super::case::{good, Case};
 use super::rules::{access, Atom, Rule, Term, Values};
 use crate::calls::{self, Answer};
-use crate::outline::{Outline, Sort, SORTS};
+use crate::outline::{Outline, SORTS};
 use crate::shell::Stop;
 
 pub struct Steps {
@@ -31,8 +31,18 @@ impl Steps {
 
     /// An error where the engine does not confirm the step.
     pub fn confirm(&self, case: &Case, rule: &Rule, values: &Values) -> Result<(), Stop> {
-        let put = |term: &Term| term.value(values).map(name).unwrap_or_default();
-        let grant = |terms: &[Term; 3]| [0, 1, 2].map(|sort| put(&terms[sort])).join(",");
+        let [s, o, a] = rule.head.map(|term| put(term, values));
+        let said = good(calls::decide(self.file(rule, values).as_bytes(), s.as_bytes(), o.as_bytes(), a.as_bytes()))?;
+        if said.answer == Answer::Permit {
+            return Ok(());
+        }
+        let head = access(&case.counts, &rule.head, values).map(|head| case.written(head)).unwrap_or_default();
+        Err(Stop::Failed(format!("the engine does not confirm that line {} derives {head}", rule.line)))
+    }
+
+    fn file(&self, rule: &Rule, values: &Values) -> String {
+        let put = |term: &Term| put(*term, values);
+        let grant = |terms: &[Term; 3]| terms.each_ref().map(put).join(",");
         let mut file = format!("{}T,facts,here\n", self.members);
         for terms in rule.grants() {
             file += &format!("G,facts,{}\n", grant(terms));
@@ -47,15 +57,13 @@ impl Steps {
                 Atom::Has(sort, predicate, x) => format!("B,has,{},p{predicate},{}\n", sort.letter(), put(x)),
             };
         }
-        file += "E,1,facts*step\n";
-        let [s, o, a] = [Sort::Subject, Sort::Object, Sort::Action].map(|sort| put(&rule.head[sort as usize]));
-        let said = good(calls::decide(file.as_bytes(), s.as_bytes(), o.as_bytes(), a.as_bytes()))?;
-        if said.answer == Answer::Permit {
-            return Ok(());
-        }
-        let head = access(&case.counts, &rule.head, values).map(|head| case.written(head)).unwrap_or_default();
-        Err(Stop::Failed(format!("the engine does not confirm that line {} derives {head}", rule.line)))
+        file + "E,1,facts*step\n"
     }
+}
+
+/// The name of the member that a term stands for. In an instance every variable has a value.
+fn put(term: Term, values: &Values) -> String {
+    term.value(values).map(name).unwrap_or_default()
 }
 
 fn name(member: usize) -> String {
