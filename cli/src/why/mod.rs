@@ -34,7 +34,7 @@ mod steps;
 mod tests;
 
 use crate::calls::{decide, Answer, Decision};
-use crate::hints::refused;
+use crate::hints::refused_ask;
 use crate::shell::{escaped, exactly, Shell, Source, Status, Stop};
 use case::Case;
 use grants::Tried;
@@ -59,7 +59,7 @@ pub fn run(arguments: &[OsString], shell: &mut Shell) -> Result<Status, Stop> {
     let started = Instant::now();
     let decision = match decide(&source.bytes, names[0], names[1], names[2]) {
         Ok(decision) => decision,
-        Err(refusal) => return refused(shell, &source, refusal),
+        Err(refusal) => return refused_ask(shell, &source, refusal, names),
     };
     let took = started.elapsed();
     let case = Case::of(&source.bytes, names, decision).ok_or_else(unfollowed)?;
@@ -107,7 +107,7 @@ fn announce(case: &Case, tried: &[Tried], took: Duration, shell: &mut Shell) -> 
     let questions = parts::questions(case) + limits::questions(case) + tried.len();
     if announcement(questions, took).is_some() {
         let started = Instant::now();
-        case.at_limit(case.limit)?;
+        let _ = case.at_limit(case.limit)?;
         if let Some(words) = announcement(questions, started.elapsed().min(took)) {
             shell.explain(&words);
         }
