@@ -60,7 +60,7 @@ library_is_fresh() {
 program_is_fresh() {
     local sources=("${program_sources[@]}") named=''
     [ -x "$program" ] && [ -e "$library" ] || return 1
-    [ ! -e "$linked" ] || read -r named <"$linked"
+    [ ! -e "$linked" ] || IFS= read -r named <"$linked"
     [ "$named" = "${SNOWDELL_LIB-}" ] || return 1
     [ -n "$named" ] || sources+=("${engine_sources[@]}")
     ! any_source "${sources[@]}" \( -newer "$program" -o -path 'crates*' -newer "$library" \)
@@ -86,12 +86,16 @@ lock() {
 
 unlock() { exec 9>&-; }
 
-# Builds a file by a command, of whose output the lines that match SHOW go to standard error: FILE LOG SHOW COMMAND..
+# Of a build's output: the lines of rt, which are one a crate, or nothing.
+crates() { LC_ALL=C grep -a --line-buffered '^rt: ' >&2; }
+nothing() { cat >/dev/null; }
+
+# Builds a file by a command, of whose output SHOW leaves something, for standard error: FILE LOG SHOW COMMAND..
 build() {
     local file=$1 log=target/$2 show=$3 status
     shift 3
     started=${EPOCHREALTIME/,/.}
-    (cd "$root" && "$@") </dev/null 2>&1 | tee "$root/$log" | LC_ALL=C grep -a --line-buffered -- "$show" >&2
+    (cd "$root" && "$@") </dev/null 2>&1 | tee "$root/$log" | "$show"
     status=${PIPESTATUS[0]}
     [ "$status" -eq 0 ] && [ -e "$file" ] && return
     say "'$*' failed with status $status; all that it said is in $log, which ends so:"
@@ -104,22 +108,19 @@ settle() {
     if any_source "${@:2}" -newermt "@$started"; then touch -d "@$started" "$1"; else touch "$1"; fi
 }
 
-# Lines of rt that are one a crate, and none.
-readonly CRATES='^rt: ' NOTHING='^$'
-
 build_list() {
     needs "$list" rt "the Rattle kit"
     lock
     if ! list_is_fresh; then
         say "proving and building the listing program; the first time it takes minutes"
-        build "$list" build-list.log "$CRATES" rt check list
+        build "$list" build-list.log crates rt check list
         settle "$list" "${engine_sources[@]}"
     fi
     unlock
 }
 
 build_library() {
-    build "$library" build-library.log "$NOTHING" rt staticlib snowdell
+    build "$library" build-library.log nothing rt staticlib snowdell
     settle "$library" "${engine_sources[@]}"
 }
 
@@ -136,7 +137,7 @@ build_program() {
     if ! program_is_fresh; then
         say "building $what"
         library_is_fresh || build_library
-        build "$program" build-program.log "$NOTHING" cargo build --release --offline --manifest-path cli/Cargo.toml --target-dir cli/target
+        build "$program" build-program.log nothing cargo build --release --offline --manifest-path cli/Cargo.toml --target-dir cli/target
         settle "$program" "${program_sources[@]}"
         if [ -n "${SNOWDELL_LIB-}" ]; then echo "$SNOWDELL_LIB" >"$linked"; else rm -f "$linked"; fi
     fi
