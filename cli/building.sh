@@ -21,6 +21,8 @@ library=${SNOWDELL_LIB-$root/target/staticlib}/libsnowdell.a
 program=$root/cli/target/release/snowdell
 # Says which SNOWDELL_LIB the program was built with; not there if with none.
 linked=$root/cli/target/release/snowdell.lib
+# Locked while something is built, and as old as the build's beginning.
+began=$root/target/.building
 # What they are made from, in the repository.
 engine_sources=(crates crates.txt)
 program_sources=(cli/src cli/Cargo.toml cli/Cargo.lock wrapper/src wrapper/Cargo.toml wrapper/build.rs "$library")
@@ -77,7 +79,7 @@ needs() {
 # One build at a time, where flock is there: another one is waited for.
 lock() {
     mkdir -p "$root/target" 2>/dev/null
-    { exec 9>"$root/target/.building"; } 2>/dev/null || die "$(shown "$root/target"): cannot be written"
+    { exec 9>"$began"; } 2>/dev/null || die "$(shown "$root/target"): cannot be written"
     command -v flock >/dev/null || return 0
     flock -n 9 && return
     say "waiting for another build"
@@ -94,7 +96,7 @@ nothing() { cat >/dev/null; }
 build() {
     local file=$1 log=target/$2 show=$3 status
     shift 3
-    started=${EPOCHREALTIME/,/.}
+    touch "$began"
     (cd "$root" && "$@") </dev/null 2>&1 | tee "$root/$log" | "$show"
     status=${PIPESTATUS[0]}
     [ "$status" -eq 0 ] && [ -e "$file" ] && return
@@ -105,7 +107,7 @@ build() {
 
 # What was built is as new as its sources; but where one was changed during the build it is older: FILE SOURCE..
 settle() {
-    if any_source "${@:2}" -newermt "@$started"; then touch -d "@$started" "$1"; else touch "$1"; fi
+    if any_source "${@:2}" -newer "$began"; then touch -r "$began" "$1"; else touch "$1"; fi
 }
 
 build_list() {
