@@ -79,7 +79,7 @@ needs() {
 # One build at a time, where flock is there: another one is waited for.
 lock() {
     mkdir -p "$root/target" 2>/dev/null
-    { exec 9>"$began"; } 2>/dev/null || die "$(shown "$root/target"): cannot be written"
+    { exec 9>>"$began"; } 2>/dev/null || die "$(shown "$root/target"): cannot be written"
     command -v flock >/dev/null || return 0
     flock -n 9 && return
     say "waiting for another build"
