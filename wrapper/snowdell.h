@@ -18,7 +18,7 @@
  * that the declarations below fit the library; snowdell_version tells one that is older or newer.
  *
  * The thread that calls needs a stack, whatever the input: snowdell_check at most SNOWDELL_CHECK_STACK bytes, snowdell_compose
- * and snowdell_decide at most SNOWDELL_STACK. That is tested (wrapper/tests/stack.rs) and not proved. A stack that is too
+ * and snowdell_decide at most SNOWDELL_STACK. That is tested (evaluator/compare/tests/stack.rs) and not proved. A stack that is too
  * small ends the process with a fault at the guard page below it, if the thread has one; a thread made by hand needs one too.
  */
 #ifndef SNOWDELL_H
