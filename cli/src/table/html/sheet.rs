@@ -10,6 +10,9 @@ use crate::table::View;
 /// The mark of a permit where the table is of one action; the heading names that action.
 const MARK: &str = "\u{2713}";
 
+/// So many actions stand beside each other in a cell, more of them below each other.
+const IN_ONE_LINE: usize = 3;
+
 /// What the page is about.
 pub fn title(view: &View) -> String {
     match only_action(view) {
@@ -105,6 +108,7 @@ fn legend(view: &View) -> String {
 fn table(view: &View, paper: &Paper) -> String {
     let mut classes = Vec::new();
     classes.extend(only_action(view).map(|_| "marks"));
+    classes.extend((view.actions.len() > IN_ONE_LINE).then_some("stacked"));
     classes.extend(upwards(view).then_some("upwards"));
     classes.extend(paper.is_list().then_some("listed"));
     let heads: String = view.objects().iter().map(|object| head(view, object)).collect();
