@@ -354,13 +354,16 @@ fn cells(page: &str, path: &str) -> Answers {
         assert_eq!(cells.len(), heads.len(), "{path}");
         for (cell, object) in cells.iter().zip(&heads) {
             assert_eq!((attribute(cell, "data-s"), attribute(cell, "data-o")), (subject, *object), "{path}");
-            let elements: Vec<String> = cell.split(" data-a=").skip(1).map(|rest| format!(" data-a={rest}")).collect();
+            let elements: Vec<&str> = cell.split('<').filter(|tag| tag.contains(" data-a=")).collect();
             let nothing = cell.starts_with(" class=\"nothing\"");
             let mut denied = 0;
             for element in &elements {
                 let (action, answer) = (attribute(element, "data-a"), attribute(element, "data-answer"));
-                let said = between(element, ">", "</").0.replace("<span>", "");
-                assert_eq!(said, words(action, answer, elements.len() == 1), "{path}");
+                let text = cell.split_once(element).expect("the element").1;
+                let said =
+                    format!("{}{}", element.split_once('>').expect("its end").1, text.split("</").next().unwrap_or_default());
+                let (tag, words) = told(action, answer, elements.len() == 1);
+                assert_eq!((element.split(' ').next(), said.replace("<span>", "")), (Some(tag), words), "{path}");
                 denied += usize::from(answer == "deny");
                 assert!(found.insert(access(subject, object, action), answer.into()).is_none(), "{path}");
             }
@@ -370,15 +373,15 @@ fn cells(page: &str, path: &str) -> Answers {
     found
 }
 
-/// The words that stand in an element, up to its first closing tag.
-fn words(action: &str, answer: &str, alone: bool) -> String {
+/// An element's tag, and the words in it up to the first closing tag.
+fn told(action: &str, answer: &str, alone: bool) -> (&'static str, String) {
     match (answer, alone) {
-        ("permit", true) => "yes".into(),
-        ("undecided", true) => "undecided".into(),
-        ("deny", true) => "no".into(),
-        ("permit", false) => action.into(),
-        ("undecided", false) => format!("{action} undecided"),
-        ("deny", false) => format!("no {action}"),
+        ("permit", true) => ("b", "yes".into()),
+        ("undecided", true) => ("i", "undecided".into()),
+        ("deny", true) => ("span", "no".into()),
+        ("permit", false) => ("b", action.into()),
+        ("undecided", false) => ("i", format!("{action} undecided")),
+        ("deny", false) => ("span", format!("no {action}")),
         _ => panic!("an answer {answer}"),
     }
 }
