@@ -25,7 +25,7 @@ linked=$root/cli/target/release/snowdell.lib
 began=$root/target/.building
 # What they are made from, in the repository.
 engine_sources=(crates crates.txt)
-program_sources=(cli/src cli/Cargo.toml cli/Cargo.lock wrapper/src wrapper/Cargo.toml wrapper/build.rs "$library")
+program_sources=(cli/src cli/Cargo.toml cli/Cargo.lock docs/REFUSALS.md wrapper/src wrapper/Cargo.toml wrapper/build.rs "$library")
 
 say() { echo "$me: $*" >&2; }
 

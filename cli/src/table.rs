@@ -107,14 +107,19 @@ fn actions(outline: &Outline, asked: Option<&OsStr>) -> Result<Vec<usize>, Stop>
         None => Ok((0..members.len()).collect()),
         Some(name) => match members.iter().position(|action| name == action.name) {
             Some(action) => Ok(vec![action]),
-            None => Err(no_action(name, members)),
+            None => Err(no_action(name, outline)),
         },
     }
 }
 
-fn no_action(name: &OsStr, actions: &[Member]) -> Stop {
-    let names: Vec<&str> = actions.iter().map(|action| action.name).collect();
-    Stop::Failed(format!("no action \"{}\"; the actions are {}", quoted(name), names.join(", ")))
+/// What may be meant or, where nothing is near, what there is.
+fn no_action(name: &OsStr, outline: &Outline) -> Stop {
+    let words = hints::no_member(outline, Sort::Action, name.as_encoded_bytes());
+    if words.ends_with('?') {
+        return Stop::Failed(words);
+    }
+    let names: Vec<&str> = outline.members[Sort::Action as usize].iter().map(|action| action.name).collect();
+    Stop::Failed(format!("{words}; the actions are {}", names.join(", ")))
 }
 
 /// The last part of the path: a heading needs no more.

@@ -688,6 +688,9 @@ fn every_refusal_has_its_words() {
         for (heading, cell) in [("What happened", cells[1]), ("What to do", cells[2])] {
             assert!(plain.contains(&format!("<h2>{heading}</h2>\n<p>{}</p>\n", shown(cell))), "{path}: {cell}");
         }
+        let said = common::snowdell(&["check", &path]).err;
+        let (_, cause) = said.lines().next().and_then(|line| line.split_once(&format!("refused {number}: "))).expect("a cause");
+        assert!(page.contains(&format!("<p>A second look says: {}</p>\n", shown(cause))), "{path}: {cause}");
         let marked = page.split("<li").position(|item| item.starts_with(" id=\"refused\"")).unwrap_or(0);
         assert_eq!(marked, numbers[1], "{path}");
     }
@@ -760,8 +763,9 @@ fn an_empty_and_a_cut_policy_have_a_page() {
 fn an_action_that_is_not_there() {
     let ran = table("examples/closed_weeks.pol", &["--action", "wirte"]);
     assert_eq!((ran.status, ran.out.as_str()), (2, ""));
-    assert!(ran.err.starts_with("snowdell: no action \"wirte\"; ") && ran.err.contains("write"), "{}", ran.err);
-    assert_eq!(ran.err.lines().count(), 1);
+    assert_eq!(ran.err, "snowdell: no action \"wirte\"; did you mean \"write\"?\n");
+    let far = table("examples/closed_weeks.pol", &["--action", "cook"]);
+    assert_eq!((far.status, far.err.as_str()), (2, "snowdell: no action \"cook\"; the actions are read, write\n"));
     let strange = table("examples/closed_weeks.pol", &["--action", "\u{1b}\u{fc}", "--format", "html"]);
     assert_eq!((strange.status, strange.out.as_str()), (2, ""));
     assert!(strange.err.starts_with("snowdell: no action \"\\x1b\\xc3\\xbc\"; "), "{}", strange.err);

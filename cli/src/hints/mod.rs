@@ -12,7 +12,7 @@ mod tests;
 mod walk;
 
 use crate::calls::{refusal_line, Refusal};
-use crate::outline::{Outline, SORTS};
+use crate::outline::{Outline, Sort, SORTS};
 use crate::shell::{escaped, Shell, Source, Status, Stop, LONGEST_POLICY};
 use fields::Field;
 use names::{unknown, Need};
@@ -78,7 +78,7 @@ pub fn refused_ask(shell: &mut Shell, source: &Source, refusal: Refusal, names: 
     }
     shell.print(&refusal_line(refusal))?;
     let which = refusal.place - 1;
-    let words = unknown(&Outline::of(&source.bytes), Need::Member(SORTS[which]), names[which], &[]);
+    let words = no_member(&Outline::of(&source.bytes), SORTS[which], names[which]);
     shell.explain(&format!("{}: refused {NOT_DECLARED}: {words}", escaped(source.path.as_bytes())));
     Ok(Status::Refused)
 }
@@ -99,10 +99,28 @@ fn explanation(source: &Source, refusal: Refusal) -> Vec<String> {
         lines.extend(cut_off(file, number).into_iter().flat_map(|last| show::with_caret(last, last.len())));
         return lines;
     };
-    let hint = look(&fault, refusal).unwrap_or_else(|| Hint::new(0, plain(number)));
+    let hint = found(&fault, refusal);
     let mut lines = vec![format!("{path}:{}:{}: refused {number}: {}", fault.number, hint.at + 1, hint.words)];
     lines.extend(show::with_caret(fault.line, hint.at));
     lines
+}
+
+/// The words alone, for a page that shows the line itself.
+pub fn cause(source: &Source, refusal: Refusal) -> String {
+    match Fault::of(&source.bytes, refusal.line) {
+        Some(fault) => found(&fault, refusal).words,
+        None => of_file(&source.bytes, refusal.number),
+    }
+}
+
+/// A member that is asked for and not declared: `no action "wirte"; did you mean "write"?`
+pub fn no_member(outline: &Outline, sort: Sort, name: &[u8]) -> String {
+    unknown(outline, Need::Member(sort), name, &[])
+}
+
+/// The cause of a refusal at a line, or else what its number says.
+fn found(fault: &Fault, refusal: Refusal) -> Hint {
+    look(fault, refusal).unwrap_or_else(|| Hint::new(0, plain(refusal.number)))
 }
 
 /// The cause of a refusal at a line, if the second look finds it.

@@ -33,7 +33,7 @@ pub fn refused(source: &Source, refusal: Refusal) -> String {
         title: format!("Refused: {file}"),
         style: STYLE.into(),
         script: None,
-        body: refusal::body(&file, &source.bytes, refusal),
+        body: refusal::body(&file, source, refusal),
     };
     page.text()
 }

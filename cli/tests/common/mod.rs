@@ -28,9 +28,13 @@ pub fn snowdell_with(arguments: &[&str], input: &[u8]) -> Ran {
         .stderr(Stdio::piped())
         .spawn()
         .expect("the program starts");
-    // A program that does not read all of its input closes the pipe; that is no failure of the test.
-    let _ = child.stdin.take().expect("a pipe").write_all(input);
-    let ended = child.wait_with_output().expect("the program ends");
+    let mut pipe = child.stdin.take().expect("a pipe");
+    // Beside the reading of what it prints, so that neither waits for the other. A program that does not read all of its input
+    // closes the pipe; that is no failure of the test.
+    let ended = std::thread::scope(|scope| {
+        scope.spawn(move || pipe.write_all(input));
+        child.wait_with_output().expect("the program ends")
+    });
     Ran {
         status: ended.status.code().expect("the program is not killed"),
         out: String::from_utf8(ended.stdout).expect("text on standard output"),

@@ -2,7 +2,8 @@
 
 use super::html;
 use crate::calls::Refusal;
-use crate::shell::{escaped, LONGEST_POLICY};
+use crate::hints::cause;
+use crate::shell::{escaped, Source, LONGEST_POLICY};
 
 /// The plain words for every number.
 const WORDS: &str = include_str!("../../../../docs/REFUSALS.md");
@@ -11,15 +12,16 @@ const WORDS: &str = include_str!("../../../../docs/REFUSALS.md");
 const NO_EXPRESSION: usize = 12;
 const NAME_NOT_DECLARED: usize = 13;
 
-pub fn body(file: &str, policy: &[u8], refusal: Refusal) -> String {
+pub fn body(file: &str, source: &Source, refusal: Refusal) -> String {
     let (happened, to_do) = words(refusal.number);
     format!(
         "<h1>The policy is refused</h1>\n<p class=\"policy\">Policy <strong>{file}</strong></p>\n\
          <p class=\"lists fault\">Refusal <strong>{}</strong>{}. Nothing is permitted by a policy that is refused.</p>\n\
-         <h2>What happened</h2>\n<p>{happened}</p>\n<h2>What to do</h2>\n<p>{to_do}</p>\n<h2>The policy</h2>\n{}",
+         <p>A second look says: {}</p>\n<h2>What happened</h2>\n<p>{happened}</p>\n<h2>What to do</h2>\n<p>{to_do}</p>\n<h2>The policy</h2>\n{}",
         refusal.number,
         position(refusal),
-        text(policy, refusal)
+        html(&cause(source, refusal)),
+        text(&source.bytes, refusal)
     )
 }
 
