@@ -26,6 +26,7 @@ fn one(path: &OsStr, shell: &mut Shell) -> Result<Status, Stop> {
         Ok(source) => source,
         Err(stop) => {
             shell.print("unread")?;
+            shell.finish()?;
             shell.say_why(&stop);
             return Ok(Status::Trouble);
         }

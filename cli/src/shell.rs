@@ -72,7 +72,7 @@ impl Shell {
         let _ = writeln!(io::stderr(), "{line}");
     }
 
-    /// All that was printed is out, or it is said that it is not.
+    /// All that was printed is out, or it is said that it is not. Before words for people: they come after what they explain.
     pub fn finish(&mut self) -> Result<(), Stop> {
         self.out.flush().map_err(unwritten)
     }

@@ -21,6 +21,7 @@ pub fn run(arguments: &[OsString], shell: &mut Shell) -> Result<Status, Stop> {
         Ok(all) => all,
         Err(refusal) if asked.format == Format::Html => {
             shell.print(&html::refused(&source, refusal))?;
+            shell.finish()?;
             hints::explain(shell, &source, refusal);
             return Ok(Status::Refused);
         }

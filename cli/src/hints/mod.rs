@@ -66,6 +66,7 @@ fn lines(file: &[u8]) -> impl Iterator<Item = &[u8]> {
 /// The refusal's line on standard output, and what is to be said of it on standard error.
 pub fn refused(shell: &mut Shell, source: &Source, refusal: Refusal) -> Result<Status, Stop> {
     shell.print(&refusal_line(refusal))?;
+    shell.finish()?;
     explain(shell, source, refusal);
     Ok(Status::Refused)
 }
@@ -77,6 +78,7 @@ pub fn refused_ask(shell: &mut Shell, source: &Source, refusal: Refusal, names: 
         return refused(shell, source, refusal);
     }
     shell.print(&refusal_line(refusal))?;
+    shell.finish()?;
     let which = refusal.place - 1;
     let words = no_member(&Outline::of(&source.bytes), SORTS[which], names[which]);
     shell.explain(&format!("{}: refused {NOT_DECLARED}: {words}", escaped(source.path.as_bytes())));

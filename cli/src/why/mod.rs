@@ -82,6 +82,7 @@ fn tell(shell: &mut Shell, said: Said) -> Result<(), Stop> {
     for line in &said.lines {
         shell.print(line)?;
     }
+    shell.finish()?;
     for line in &said.words {
         shell.explain(line);
     }
