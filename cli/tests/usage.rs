@@ -57,9 +57,25 @@ fn help_and_version() {
     assert_eq!(version.out, format!("snowdell {}\n", env!("CARGO_PKG_VERSION")));
 }
 
-/// Each subcommand that has one FILE.
-fn with_file(path: &str) -> [Vec<&str>; 2] {
-    [vec!["list", path], vec!["decide", path, "nurse", "wk3", "write"]]
+/// Each subcommand but `check` and `diff` with this FILE.
+fn with_file(path: &str) -> [Vec<&str>; 5] {
+    [
+        vec!["list", path],
+        vec!["decide", path, "nurse", "wk3", "write"],
+        vec!["why", path, "nurse", "wk3", "write"],
+        vec!["table", path],
+        vec!["test", path, "examples/closed_weeks.out"],
+    ]
+}
+
+/// Standard output for a refused file: `test` says it of each expectation.
+fn refused_by(subcommand: &str, refusal: &str) -> String {
+    if subcommand != "test" {
+        return format!("{refusal}\n");
+    }
+    let expected = text("examples/closed_weeks.out");
+    let failed: String = (1..).zip(expected.lines()).map(|(i, line)| format!("line {i}: {line}: found {refusal}\n")).collect();
+    format!("{failed}0 passed, {} failed\n", expected.lines().count())
 }
 
 #[test]
@@ -118,16 +134,37 @@ fn huge_input() {
         for arguments in with_file(path) {
             let ran = snowdell(&arguments);
             let words = format!("{path}: refused 2: the file has more than 32,768 bytes\n");
-            assert_eq!(ran, Ran { status: 3, out: "refused,2,0,0\n".into(), err: words }, "{arguments:?}");
+            let out = refused_by(arguments[0], "refused,2,0,0");
+            assert_eq!(ran, Ran { status: 3, out, err: words }, "{arguments:?}");
         }
+        let ran = snowdell(&["diff", GOOD, path]);
+        assert_eq!((ran.status, ran.out.as_str()), (3, "new,refused,2,0,0\n"));
     }
     let ran = snowdell_with(&["list", "-"], &vec![b'S'; 10_000_000]);
     assert_eq!((ran.status, ran.out.as_str()), (3, "refused,2,0,0\n"));
 }
 
-/// Subcommands that write, the first more than a pipe holds.
-fn writers(long: &Scratch) -> [Vec<&str>; 4] {
-    [vec!["list", long.path()], vec!["check", GOOD], vec!["decide", GOOD, "nurse", "wk3", "write"], vec!["--help"]]
+#[test]
+fn empty_and_damaged_input() {
+    let empty = Scratch::new("empty.pol", b"");
+    let damaged = Scratch::new("damaged.pol", &text(GOOD).replace("S,nurse,staff", "S,n\0rse,staff").into_bytes());
+    for (file, refusal) in [(&empty, "refused,2,0,0"), (&damaged, "refused,3,2,0")] {
+        for arguments in with_file(file.path()) {
+            let ran = snowdell(&arguments);
+            assert_eq!((ran.status, ran.out), (3, refused_by(arguments[0], refusal)), "{arguments:?}");
+            assert!(ran.err.starts_with(file.path()) && ran.err.contains(": refused "), "{}", ran.err);
+        }
+        let ran = snowdell(&["diff", file.path(), GOOD]);
+        assert_eq!((ran.status, ran.out), (3, format!("old,{refusal}\n")));
+    }
+}
+
+/// Every subcommand writes; the first more than a pipe holds.
+fn writers(long: &Scratch) -> Vec<Vec<&str>> {
+    let mut writers = vec![vec!["list", long.path()], vec!["check", GOOD], vec!["diff", GOOD, long.path()], vec!["--help"]];
+    writers.extend(with_file(GOOD));
+    writers.extend(with_file("examples/refusals/03.pol"));
+    writers
 }
 
 /// Status and standard error with this as standard output.
