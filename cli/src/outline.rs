@@ -113,6 +113,13 @@ pub struct Goal<'a> {
     pub expression: &'a str,
 }
 
+impl Goal<'_> {
+    /// Does the name stand in the expression, as whatever? A table whose name does not cannot matter.
+    pub fn names(&self, name: &str) -> bool {
+        self.expression.split(|c: char| !c.is_ascii_alphanumeric() && c != '_').any(|word| word == name)
+    }
+}
+
 impl<'a> Outline<'a> {
     /// Of lines that are good, one after another from the first; it stops at the first that it cannot follow.
     pub fn of(lines: &'a [u8]) -> Outline<'a> {

@@ -62,9 +62,8 @@ impl<'a> Question<'a> {
 
     /// The lists that are away and whose names stand in the expression; no other can matter.
     fn away(&self) -> Vec<usize> {
-        let words: Vec<&str> = self.goal.expression.split(|c: char| !c.is_ascii_alphanumeric() && c != '_').collect();
         let tables = self.outline.tables.iter().enumerate();
-        tables.filter(|(_, table)| !table.here && words.contains(&table.name)).map(|(number, _)| number).collect()
+        tables.filter(|(_, table)| !table.here && self.goal.names(table.name)).map(|(number, _)| number).collect()
     }
 
     /// What one list would do while the others stay away, if it would do anything.

@@ -63,18 +63,13 @@ fn undecided<'a>(changes: impl Iterator<Item = &'a Change<'a>>, new: &Outline) -
     }
     let became = format!("{} became undecided", counted(count, "answer", "answers"));
     let goal = new.goal.as_ref()?;
-    let away: Vec<&str> = new.tables.iter().filter(|t| !t.here && names(goal.expression, t.name)).map(|t| t.name).collect();
+    let away: Vec<&str> = new.tables.iter().filter(|t| !t.here && goal.names(t.name)).map(|t| t.name).collect();
     Some(if away.is_empty() {
         let rounds = counted(goal.limit, "round", "rounds");
         format!("{became}: the new file waits for no list, but its limit of {rounds} stops a closure early")
     } else {
         format!("{became}; away in the new file: {}", away.join(", "))
     })
-}
-
-/// Does the name stand in the expression?
-fn names(expression: &str, name: &str) -> bool {
-    expression.split(|c: char| !c.is_ascii_alphanumeric() && c != '_').any(|word| word == name)
 }
 
 /// `1 member has another parent: subject ann (staff, now ward)`
