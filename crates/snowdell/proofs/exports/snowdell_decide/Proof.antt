@@ -10,7 +10,8 @@ returns-2 c =
     let c5 = c .before .before .before .before .before in
     let c9 = c5 .before .before .before .before in
     let start = c9 .before .before .before .before .before .before .before .before .before in
-    let h = decide-hands _ _ _ _ _ _ _ (start .args .w .now) (c9 .before .before .if1 .left) (c5 .before .wide .ensures) (c5 .wide2 .ensures) (c9 .decide .ensures .0)
+    let room = c9 .before .before .if1 .left in
+    let h = decide-hands _ _ _ _ _ _ _ (start .args .w .now) room (c5 .before .wide .ensures) (c5 .wide2 .ensures) (c9 .decide .ensures .0)
     (c .before .before .hand .ensures) in
     (h .0, (h .1, h .2))
 
