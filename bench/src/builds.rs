@@ -12,6 +12,7 @@ extern "C" {
 /// Every symbol is bound when the library is loaded.
 const RTLD_NOW: c_int = 2;
 
+// What a call returns is not looked at: a build from before 0.2.0 returns nothing.
 type Check = unsafe extern "C" fn(*const u8, usize, *mut usize, usize);
 type Compose = unsafe extern "C" fn(*const u8, usize, *mut u8, usize, *mut u8, usize, *mut usize, usize);
 

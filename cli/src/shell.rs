@@ -136,7 +136,7 @@ pub fn joined(words: &[&str]) -> String {
     }
 }
 
-/// The arguments, so many and no option among them; `names` are what the usage line calls them.
+/// The arguments, if they are so many; else the usage is said.
 pub fn exactly<'a, const N: usize>(arguments: &'a [OsString], usage: &str) -> Result<&'a [OsString; N], Stop> {
     arguments.try_into().map_err(|_| Stop::Usage(format!("usage: snowdell {usage}")))
 }
