@@ -1,4 +1,6 @@
 // Composes a policy: the tree of its expression, run by recursion over its nodes on sets of answers in lent working memory.
+#![tactic(auto)]
+
 ghost use Rattle.std.specs.Prelude.{◌≡◌, cond, ℕ, ◌+◌, ◌*◌, ◌≤◌, ◌<◌, eqb, length};
 ghost use Rattle.algebra.specs.Sort.{Sort};
 ghost use Rattle.algebra.specs.Answer.{Answer};

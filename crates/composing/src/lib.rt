@@ -1,4 +1,6 @@
 // Compose within buffers that are large enough.
+#![tactic(auto)]
+
 ghost use Rattle.std.specs.Prelude.{◌≡◌, ◌≤◌, length};
 ghost use Rattle.algebra.specs.Bytes.{cleared};
 ghost use Rattle.engine.specs.Calls as Calls;

@@ -1,4 +1,6 @@
 // Runs Check on each file that an argument names, and prints a line for it: the name, number, line, place and the three sort counts.
+#![tactic(auto)]
+
 use libc::STDOUT_FILENO;
 use snowdell::{Checked, check};
 

@@ -1,5 +1,7 @@
 // Reading an expression: it is read, its names are looked up, and the nodes of its tree are made; or the place of its first wrong byte. While it is
 // read, the cells of the nodes stand in one slice, which each function lends on, so that an open bracket costs little room.
+#![tactic(auto)]
+
 mod text_reader;
 
 ghost use Rattle.std.specs.Prelude.{◌≡◌, true, [], ◌∷◌, ◌+◌, ◌≤◌, ◌<◌, length, get_or};

@@ -1,4 +1,6 @@
 // E lines: the rows that they may meet, and the nodes of the expression.
+#![tactic(auto)]
+
 ghost use Rattle.std.specs.Prelude.{◌≡◌, ◌≤◌, length};
 ghost use Rattle.names.specs.Entries.{Sound};
 ghost use Rattle.reader.specs.Declarations.{Declared};

@@ -1,4 +1,6 @@
 // The set of a table, from the grants in lent working memory.
+#![tactic(auto)]
+
 ghost use Rattle.std.specs.Prelude.{◌≡◌, ◌≤◌, ◌<◌, eqb, length};
 ghost use Rattle.algebra.specs.Lists.{any};
 ghost use Rattle.algebra.specs.Answer.{sure};

@@ -1,5 +1,7 @@
 // Runs Compose on each file that an argument names, and prints a line for it: the name, number, line, place, N, permits, undecided,
 // rounds, and a digest of the whole result, which is lent full of 7.
+#![tactic(auto)]
+
 ghost use Rattle.std.specs.Prelude.{◌<◌};
 
 use composing::Composed;

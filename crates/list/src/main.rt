@@ -1,4 +1,6 @@
 // The listing program: reads a policy from standard input, and prints its listing or its refusal.
+#![tactic(auto)]
+
 mod input;
 mod members;
 mod output;

@@ -1,6 +1,8 @@
 // Looks names up in the index of a policy's members. Each argument names a file: a policy, and behind its E line a line for each lookup,
 // the sort's letter, a comma and the name. Prints a line for each: the file's name, the lookup's line, and `found` with the member's
 // number or `none`, then how many slots were read; of a policy that is refused, number, line and place.
+#![tactic(auto)]
+
 ghost use Rattle.std.specs.Prelude.{◌≤◌, length};
 ghost use Rattle.names.specs.Entries.{Sound};
 

@@ -1,4 +1,6 @@
 // The index of a sort's names: 256 slots, of which a name's is the low eight bits of its FNV-1a value.
+#![tactic(auto)]
+
 ghost use Rattle.std.specs.Prelude.{◌≡◌, ◌+◌, ◌≤◌, ◌<◌, length};
 ghost use Rattle.std.proofs.Math.Seq.{slice};
 ghost use Rattle.grammar.specs.Lookup.{same};

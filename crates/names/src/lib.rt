@@ -1,4 +1,6 @@
 // Looking up a name in the entries that the code holds.
+#![tactic(auto)]
+
 ghost use Rattle.std.specs.Prelude.{◌≡◌, ◌≤◌, ◌<◌, length};
 ghost use Rattle.std.proofs.Math.Seq.{slice};
 ghost use Rattle.algebra.specs.Stored.{stored_sort};

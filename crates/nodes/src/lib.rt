@@ -1,4 +1,6 @@
 // An expression's tree as nodes in a slice of numbers, in the order of the text: four numbers a node, each node after its parts.
+#![tactic(auto)]
+
 ghost use Rattle.std.specs.Prelude.{◌≡◌, ℕ, ◌+◌, ◌*◌, ◌≤◌, max, length};
 ghost use Rattle.algebra.specs.Algebra.{Tree, held, bindings};
 ghost use Rattle.algebra.specs.Policy.{Scope};

@@ -1,4 +1,6 @@
 // Reads a policy file: its lines one after the other, each refused by the first row that it meets or added to the state.
+#![tactic(auto)]
+
 ghost use Rattle.std.specs.Prelude.{◌≡◌, List, ℕ, ◌+◌, ◌*◌, ◌≤◌, ◌<◌, length, drop};
 ghost use Rattle.reader.specs.Declarations.{start};
 ghost use Rattle.state.specs.Standing.{Few, Sizes, Stands, more_predicates_lem, placed_of, marked_of, grant_written};

@@ -1,4 +1,6 @@
 // The order of the rows of the table of refusals that a T line may meet.
+#![tactic(auto)]
+
 ghost use Rattle.std.specs.Prelude.{◌≡◌};
 ghost use Rattle.rows.specs.First.{verdict_at, first_met_lem};
 

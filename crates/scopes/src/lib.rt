@@ -1,4 +1,6 @@
 // A scope on a set of answers in lent working memory.
+#![tactic(auto)]
+
 ghost use Rattle.std.specs.Prelude.{◌≡◌, ℕ, ◌+◌, ◌*◌, ◌≤◌, ◌<◌, length, get_or};
 ghost use Rattle.algebra.specs.Answer.{keep};
 ghost use Rattle.algebra.specs.Policy.{Frame, members, accesses, part, in_scope};

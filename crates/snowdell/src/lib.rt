@@ -1,5 +1,7 @@
 // The three calls. Each contract is an equation with a definition of the crate `engine`: every number returned and every byte lent, for
 // every byte string of any length. Compose and Decide say besides what demand 3 asks of the answers that they give.
+#![tactic(auto)]
+
 pub mod exports;
 
 ghost use Rattle.std.specs.Prelude.{◌≡◌};

@@ -24,7 +24,7 @@ mul-result-2 c = omega (arith, small_three c.before.before.wide.ensures.1 c.befo
 returns : tie.Need-returns
 returns c = rw (c.before.before.wide.ensures.0, c.before.wide2.ensures.0, c.wide3.ensures.0) refl
 
-pub accesses-spec : {M : Type 1} → statement M
-accesses-spec =
+pub accesses_spec : {M : Type 1} → statement M
+accesses_spec =
     tie.close
     (tie.spec wide-requires wide-requires-2 mul-result wide-requires-3 mul-result-2 returns)

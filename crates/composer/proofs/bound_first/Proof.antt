@@ -24,5 +24,5 @@ returns c =
     let start = c.before.before in
     is_inner start.args.k start.args.b start.requires.0
 
-pub bound-first-spec : {M : Type 1} → statement M
-bound-first-spec = tie.close (tie.spec add-t4 cast-t5 array-read-t8 array-read-t11 array-read-t14 returns)
+pub bound_first_spec : {M : Type 1} → statement M
+bound_first_spec = tie.close (tie.spec add-t4 cast-t5 array-read-t8 array-read-t11 array-read-t14 returns)

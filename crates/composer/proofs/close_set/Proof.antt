@@ -43,8 +43,8 @@ returns c =
           (m ∙ start.requires.1.set ∙ sym (accesses_total fr a.s.n a.t.now st.stands)) (closure.ensures.1 fr st),
     )
 
-pub close-set-spec : {M : Type 1} → statement M
-close-set-spec =
+pub close_set_spec : {M : Type 1} → statement M
+close_set_spec =
     tie.close
     (tie.spec
     mul_at

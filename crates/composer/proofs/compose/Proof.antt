@@ -31,5 +31,5 @@ returns c =
     run.new.0 run.auto.0 start.requires.1.0.0 (omega (arith, accesses_total P.frame a.n a.t.now cp.frame.stands, ready.sized.few))
     (run.ensures.1 P.frame cp.frame (table_in a.here a.grants a.w.now) (unbound refl) P.tree 0 cp.nodes)
 
-pub compose-spec : {M : Type 1} → statement M
-compose-spec = tie.close (tie.spec accesses-requires run-requires same_length returns)
+pub compose_spec : {M : Type 1} → statement M
+compose_spec = tie.close (tie.spec accesses-requires run-requires same_length returns)

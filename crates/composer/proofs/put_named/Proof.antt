@@ -51,8 +51,8 @@ returns c =
 same-length-2 : tie.Need-same-length-2
 same-length-2 c = search rules
 
-pub put-named-spec : {M : Type 1} → statement M
-put-named-spec =
+pub put_named_spec : {M : Type 1} → statement M
+put_named_spec =
     tie.close
     (tie.spec
     wide-requires

@@ -32,8 +32,8 @@ returns-2 c =
     let c4 = c.before.before.before.before in
     table_away _ _ _ _ _ _ _ _ c4.before.before.wide.ensures.0 c4.if1.false c.before.before.fill-away.ensures
 
-pub put-table-spec : {M : Type 1} → statement M
-put-table-spec =
+pub put_table_spec : {M : Type 1} → statement M
+put_table_spec =
     tie.close
     (tie.spec
     wide-requires

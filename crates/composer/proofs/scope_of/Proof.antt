@@ -10,5 +10,5 @@ returns c = (rw (eq-eqb _ 6 c.if1.true) refl, refl, refl)
 returns-2 : tie.Need-returns-2
 returns-2 c = (rw (ne_eqb _ 6 c.if1.false) refl, refl, refl)
 
-pub scope-of-spec : {M : Type 1} → statement M
-scope-of-spec = tie.close (tie.spec returns returns-2)
+pub scope_of_spec : {M : Type 1} → statement M
+scope_of_spec = tie.close (tie.spec returns returns-2)

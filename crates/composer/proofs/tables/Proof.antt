@@ -105,8 +105,8 @@ returns c =
     (put_done 12288 loop.i 1024 (λ i. get_or a.marks.now i 0) fill-order3.new.0 loop.t loop.invariant.0 (omega arith) loop.invariant.2)
     (fill-order3.auto.0 ∙ fill-order2.auto.0 ∙ fill-order.auto.0 ∙ pre.0.0) pre.1.0.0 pre.1.0.1 pre.1.0.2
 
-pub tables-spec : {M : Type 1} → statement M
-tables-spec =
+pub tables_spec : {M : Type 1} → statement M
+tables_spec =
     tie.close
     (tie.spec
     invariant-loop

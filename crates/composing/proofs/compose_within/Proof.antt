@@ -110,8 +110,8 @@ same-length-3 c =
     let c19 = c11.before.before.before.before.before.before.before.before in
     c11.run-policy.auto.0 ∙ c19.read-within.auto.1.0
 
-pub compose-within-spec : {M : Type 1} → statement M
-compose-within-spec =
+pub compose_within_spec : {M : Type 1} → statement M
+compose_within_spec =
     tie.close
     (tie.spec
     read-within-requires

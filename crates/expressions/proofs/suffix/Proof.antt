@@ -58,8 +58,8 @@ returns-4 c =
     let c3 = c.before.before.before in
     x_scope _ _ (byte_is c3.before.peek.ensures c3.if1.false) (byte_is c.before.before.peek2.ensures c.before.if2.false) _ c.scope.ensures
 
-pub suffix-spec : {M : Type 1} → statement M
-suffix-spec =
+pub suffix_spec : {M : Type 1} → statement M
+suffix_spec =
     tie.close
     (tie.spec
     add-n

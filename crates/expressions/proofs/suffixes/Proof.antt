@@ -106,8 +106,8 @@ returns-2 c =
     let c3 = c.before.before.before in
     xs_end _ _ _ _ _ _ c3.loop.invariant.1 (seen suffix_byte c.before.before.peek.ensures c.before.is-suffix.ensures c.if1.false)
 
-pub suffixes-spec : {M : Type 1} → statement M
-suffixes-spec =
+pub suffixes_spec : {M : Type 1} → statement M
+suffixes_spec =
     tie.close
     (tie.spec
     invariant-loop

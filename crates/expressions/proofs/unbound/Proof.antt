@@ -21,8 +21,8 @@ same_length c = search rules
 returns : tie.Need-returns
 returns c = search rules
 
-pub unbound-spec : {M : Type 1} → statement M
-unbound-spec =
+pub unbound_spec : {M : Type 1} → statement M
+unbound_spec =
     tie.close
     (tie.spec
     slice-aggregate-expression

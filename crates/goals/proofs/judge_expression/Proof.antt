@@ -161,8 +161,8 @@ returns-8 c d ns g =
     goal_13 _ _ _ _ _ d ns _ g _ _ (sym c13.late.ensures ∙ c12.if1.false) (sym c11.bad-counts.ensures ∙ c10.if2.false)
     (omega (arith, c9.if3.false)) _ (told_part _ _ _ _ start.requires.1 c7.read.ensures) c4.answer2.given.1 c1.missing.given.1 _
 
-pub judge-expression-spec : {M : Type 1} → statement M
-judge-expression-spec =
+pub judge_expression_spec : {M : Type 1} → statement M
+judge_expression_spec =
     tie.close
     (tie.spec
     late-requires

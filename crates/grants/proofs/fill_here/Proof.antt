@@ -96,8 +96,8 @@ returns c =
     let l = c.before.loop in
     all_given a.table a.k a.n a.w.now _ start.requires.0 c4.fill.ensures l.i a.grants l.w l.invariant.0 c.loop-test.false l.invariant.2
 
-pub fill-here-spec : {M : Type 1} → statement M
-fill-here-spec =
+pub fill_here_spec : {M : Type 1} → statement M
+fill_here_spec =
     tie.close
     (tie.spec
     invariant-loop

@@ -32,5 +32,5 @@ loop-again c = search rules
 returns : tie.Need-returns invariant-loop decreases-loop
 returns c = search rules
 
-pub digest-spec : {M : Type 1} → statement M
-digest-spec = tie.close (tie.spec invariant-loop decreases-loop loop-holds element-copy-out-mix mix-requires add-i loop-less loop-again returns)
+pub digest_spec : {M : Type 1} → statement M
+digest_spec = tie.close (tie.spec invariant-loop decreases-loop loop-holds element-copy-out-mix mix-requires add-i loop-less loop-again returns)

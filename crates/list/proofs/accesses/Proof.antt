@@ -38,6 +38,6 @@ loop-again c = search rules
 returns : tie.Need-returns invariant-loop decreases-loop
 returns c = search rules
 
-pub accesses-spec : {M : Type 1} → statement M
-accesses-spec =
+pub accesses_spec : {M : Type 1} → statement M
+accesses_spec =
     tie.close (tie.spec invariant-loop decreases-loop check-requires starts-requires loop-holds element-copy-out-access access-requires add-x loop-less loop-again returns)

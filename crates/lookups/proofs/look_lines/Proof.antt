@@ -40,8 +40,8 @@ loop-again c = search rules
 returns : tie.Need-returns invariant-loop decreases-loop
 returns c = search rules
 
-pub look-lines-spec : {M : Type 1} → statement M
-look-lines-spec =
+pub look_lines_spec : {M : Type 1} → statement M
+look_lines_spec =
     tie.close
     (tie.spec
     invariant-loop

@@ -43,8 +43,8 @@ look-lines-requires c κs =
 returns-2 : tie.Need-returns-2
 returns-2 c = search rules
 
-pub looked-spec : {M : Type 1} → statement M
-looked-spec =
+pub looked_spec : {M : Type 1} → statement M
+looked_spec =
     tie.close
     (tie.spec
     policy-end-requires

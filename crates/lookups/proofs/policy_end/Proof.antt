@@ -40,8 +40,8 @@ loop-again c = search rules
 returns-3 : tie.Need-returns-3 invariant-loop decreases-loop
 returns-3 c = search rules
 
-pub policy-end-spec : {M : Type 1} → statement M
-policy-end-spec =
+pub policy_end_spec : {M : Type 1} → statement M
+policy_end_spec =
     tie.close
     (tie.spec
     invariant-loop

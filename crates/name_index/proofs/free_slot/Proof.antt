@@ -44,8 +44,8 @@ loop-again c = freeing_next _ _ _ c.before.before.before.loop.invariant (search 
 returns-2 : tie.Need-returns-2 invariant-loop decreases-loop
 returns-2 c = (freeing_end _ _ _ c.before.loop.invariant (search rules), omega (arith, c.before.loop.invariant.at_slot.here))
 
-pub free-slot-spec : {M : Type 1} → statement M
-free-slot-spec =
+pub free_slot_spec : {M : Type 1} → statement M
+free_slot_spec =
     tie.close
     (tie.spec
     invariant-loop

@@ -14,5 +14,5 @@ insert-requires c κs = omega (arith, slots_within (stored_sort c.before.before.
 returns : tie.Need-returns
 returns c = inserted _ _ _ _ _ _ c.insert.ensures c.before.slots-of.ensures
 
-pub insert-member-spec : {M : Type 1} → statement M
-insert-member-spec = tie.close (tie.spec slots-of-requires insert-requires returns)
+pub insert_member_spec : {M : Type 1} → statement M
+insert_member_spec = tie.close (tie.spec slots-of-requires insert-requires returns)

@@ -26,5 +26,5 @@ returns c =
     member_looked _ _ _ _ _ start.requires.0 (stored_sort start.args.s) _ _ c.before.before.Group-of.ensures c.before.slots-of.ensures _ _
     c.find.ensures
 
-pub look-member-spec : {M : Type 1} → statement M
-look-member-spec = tie.close (tie.spec group-of-requires slots-of-requires find-requires returns)
+pub look_member_spec : {M : Type 1} → statement M
+look_member_spec = tie.close (tie.spec group-of-requires slots-of-requires find-requires returns)

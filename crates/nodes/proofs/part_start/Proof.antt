@@ -62,8 +62,8 @@ returns-2 c =
     let m = label c1.before.before.args.m.now in
     sym (back_none m c1.loop.j) ∙ ap (back m c1.loop.j) (omega (arith, c.loop-test.false)) ∙ c1.loop.invariant.2
 
-pub part-start-spec : {M : Type 1} → statement M
-part-start-spec =
+pub part_start_spec : {M : Type 1} → statement M
+part_start_spec =
     tie.close
     (tie.spec
     invariant-loop

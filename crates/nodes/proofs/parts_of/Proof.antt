@@ -28,5 +28,5 @@ returns-5 c =
     let start = c.before.before.before.before.before.before.before.before in
     (parts_template start.args.c (omega (arith, c.if4.false)), omega arith)
 
-pub parts-of-spec : {M : Type 1} → statement M
-parts-of-spec = tie.close (tie.spec returns returns-2 returns-3 returns-4 returns-5)
+pub parts_of_spec : {M : Type 1} → statement M
+parts_of_spec = tie.close (tie.spec returns returns-2 returns-3 returns-4 returns-5)

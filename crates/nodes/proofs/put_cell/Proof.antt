@@ -34,8 +34,8 @@ same_length c = search rules
 returns : tie.Need-returns
 returns c = search rules
 
-pub put-cell-spec : {M : Type 1} → statement M
-put-cell-spec =
+pub put_cell_spec : {M : Type 1} → statement M
+put_cell_spec =
     tie.close
     (tie.spec
     mul_at

@@ -21,5 +21,5 @@ returns-5 c =
     let c3 = c.before.before.before in
     met_none _ _ _ _ c3.if1.false c.before.before.if2.false c.before.if3.false c.if4.false
 
-pub first-met-spec : {M : Type 1} → statement M
-first-met-spec = tie.close (tie.spec returns returns-2 returns-3 returns-4 returns-5)
+pub first_met_spec : {M : Type 1} → statement M
+first_met_spec = tie.close (tie.spec returns returns-2 returns-3 returns-4 returns-5)

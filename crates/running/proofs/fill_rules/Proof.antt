@@ -54,8 +54,8 @@ same_length c = c.before.loop.invariant.0
 returns : tie.Need-returns invariant-loop decreases-loop
 returns c k h = c.before.loop.invariant.2 k (omega (arith, c.loop-test.false))
 
-pub fill-rules-spec : {M : Type 1} → statement M
-fill-rules-spec =
+pub fill_rules_spec : {M : Type 1} → statement M
+fill_rules_spec =
     tie.close
     (tie.spec
     invariant-loop

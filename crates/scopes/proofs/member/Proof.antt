@@ -12,5 +12,5 @@ returns-2 c = member_object _ _ _ _ c.if2.true
 returns-3 : tie.Need-returns-3
 returns-3 c = member_action _ _ _ _ c.before.if1.false c.if2.false
 
-pub member-spec : {M : Type 1} → statement M
-member-spec = tie.close (tie.spec returns returns-2 returns-3)
+pub member_spec : {M : Type 1} → statement M
+member_spec = tie.close (tie.spec returns returns-2 returns-3)

@@ -70,8 +70,8 @@ returns-6 c =
     let args = start.args in
     λ fr n x st nm pt l. passes_mark args.t.now args.c start.requires.1.0 args.m fr n x st nm pt l _ c.entry5.ensures (omega arith)
 
-pub passes-spec : {M : Type 1} → statement M
-passes-spec =
+pub passes_spec : {M : Type 1} → statement M
+passes_spec =
     tie.close
     (tie.spec
     wide-requires

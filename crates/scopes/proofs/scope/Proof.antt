@@ -207,8 +207,8 @@ returns c =
     λ fr st nm ans. turns_done (by_subject (in_scope fr (stored_scope a.c)) a.k a.z) _ c.before.subjects.invariant.0 c.subjects-test.false
     (c.before.subjects.invariant.2 fr st nm) ∙ walked fr a.k a.z a.t.now (in_scope fr (stored_scope a.c)) a.w.now st (omega arith) ans
 
-pub scope-spec : {M : Type 1} → statement M
-scope-spec =
+pub scope_spec : {M : Type 1} → statement M
+scope_spec =
     tie.close
     (tie.spec
     invariant-actions

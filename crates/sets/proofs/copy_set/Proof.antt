@@ -66,8 +66,8 @@ returns c =
     let a = c.before.before.args in
     put_done (a.k * 4096) loop.x a.n (byte_at a.j a.w.now) a.w.now loop.w loop.invariant.0 c.loop-test.false loop.invariant.2
 
-pub copy-set-spec : {M : Type 1} → statement M
-copy-set-spec =
+pub copy_set_spec : {M : Type 1} → statement M
+copy_set_spec =
     tie.close
     (tie.spec
     invariant-loop

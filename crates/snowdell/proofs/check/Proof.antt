@@ -18,6 +18,6 @@ returns c = check_no _ _ _ _ (c.before.before.before.read-policy.ensures.0.no c.
 returns-2 : tie.Need-returns-2
 returns-2 c = check_yes _ _ _ (c.before.before.before.before.read-policy.ensures.0.yes c.before.if1.false)
 
-pub check-spec : {M : Type 1} → statement M
-check-spec =
+pub check_spec : {M : Type 1} → statement M
+check_spec =
     tie.close (tie.spec slice-aggregate-read-policy read-policy-requires returns returns-2)

@@ -41,8 +41,8 @@ returns-3 c =
     compose_promises _ _ _ _ _ _
     (ap (composed_of compose-within.result _) (c.before.before.clear.ensures ∙ compose-within.ensures.1) ∙ compose-within.ensures.0)
 
-pub compose-spec : {M : Type 1} → statement M
-compose-spec =
+pub compose_spec : {M : Type 1} → statement M
+compose_spec =
     tie.close
     (tie.spec
     not-composed-requires

@@ -32,8 +32,8 @@ returns-2 c =
     decide_promises _ _ _ _ _ _ _
     (ap (decided_of decide-within.result) (c.before.before.clear.ensures ∙ decide-within.ensures.1) ∙ decide-within.ensures.0)
 
-pub decide-spec : {M : Type 1} → statement M
-decide-spec =
+pub decide_spec : {M : Type 1} → statement M
+decide_spec =
     tie.close
     (tie.spec
     not-decided-requires

@@ -55,8 +55,8 @@ returns-3 c d N g =
     let there = sym looked.look.ensures ∙ ap found_of c.before.q.given.1 in
     child_joins _ d _ _ _ (judged.judge-member.ensures d N g) _ _ _ _ _ N _ there start.requires.4 start.requires.2 looked.before.if1.false
 
-pub judge-child-spec : {M : Type 1} → statement M
-judge-child-spec =
+pub judge_child_spec : {M : Type 1} → statement M
+judge_child_spec =
     tie.close
     (tie.spec
     judge-member-requires

@@ -34,8 +34,8 @@ returns-3 : tie.Need-returns-3
 unfolding LineJoins
 returns-3 c d N g = no_member c.before.before.before.before.before.args.l c.match.keys3
 
-pub judge-joining-spec : {M : Type 1} → statement M
-judge-joining-spec =
+pub judge_joining_spec : {M : Type 1} → statement M
+judge_joining_spec =
     tie.close
     (tie.spec
     enum-known-l

@@ -17,5 +17,5 @@ returns-2 c d N g =
     let start = c.before.before.before.before.before.before in
     root_joins _ d _ _ _ (c.before.judge-member.ensures d N g) start.requires.2 start.requires.1 c.if1.false
 
-pub judge-root-spec : {M : Type 1} → statement M
-judge-root-spec = tie.close (tie.spec judge-member-requires returns returns-2)
+pub judge_root_spec : {M : Type 1} → statement M
+judge_root_spec = tie.close (tie.spec judge-member-requires returns returns-2)

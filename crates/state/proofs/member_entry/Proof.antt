@@ -17,5 +17,5 @@ add-result c = omega (arith, base_low (stored_sort c.before.before.args.s), c.be
 returns : tie.Need-returns
 returns c = omega (arith, c.before.base.ensures, c.wide.ensures.0)
 
-pub member-entry-spec : {M : Type 1} → statement M
-member-entry-spec = tie.close (tie.spec base-requires wide-requires add-result returns)
+pub member_entry_spec : {M : Type 1} → statement M
+member_entry_spec = tie.close (tie.spec base-requires wide-requires add-result returns)

@@ -66,8 +66,8 @@ loop-again c = search_next _ _ _ _ c.before.before.before.before.before.loop.inv
 returns-2 : tie.Need-returns-2 invariant-loop decreases-loop
 returns-2 c = search_end _ _ _ _ c.before.loop.invariant (search rules)
 
-pub bound-at-spec : {M : Type 1} → statement M
-bound-at-spec =
+pub bound_at_spec : {M : Type 1} → statement M
+bound_at_spec =
     tie.close
     (tie.spec
     invariant-loop

@@ -22,5 +22,5 @@ peek-requires-2 c κs = search rules
 returns-2 : tie.Need-returns-2
 returns-2 c = a_binding c.before.before.peek.ensures c.before.if1.false c.peek2.ensures
 
-pub is-binding-spec : {M : Type 1} → statement M
-is-binding-spec = tie.close (tie.spec peek-requires returns add-peek peek-requires-2 returns-2)
+pub is_binding_spec : {M : Type 1} → statement M
+is_binding_spec = tie.close (tie.spec peek-requires returns add-peek peek-requires-2 returns-2)

@@ -16,5 +16,5 @@ sort-byte-requires c κs = search rules
 returns-2 : tie.Need-returns-2
 returns-2 c = c.sort-byte.ensures ∙ sym (letter_of_sort _ c.before.if1.false)
 
-pub letter-byte-spec : {M : Type 1} → statement M
-letter-byte-spec = tie.close (tie.spec returns sort-byte-requires returns-2)
+pub letter_byte_spec : {M : Type 1} → statement M
+letter_byte_spec = tie.close (tie.spec returns sort-byte-requires returns-2)

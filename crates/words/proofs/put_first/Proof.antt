@@ -55,8 +55,8 @@ returns c =
     let m = moved_all _ _ _ c.before.loop.invariant.1 _ in
     (m.0, m.1, λ j h. m.2 j (omega (arith, c.loop-test.false)))
 
-pub put-first-spec : {M : Type 1} → statement M
-put-first-spec =
+pub put_first_spec : {M : Type 1} → statement M
+put_first_spec =
     tie.close
     (tie.spec
     invariant-loop

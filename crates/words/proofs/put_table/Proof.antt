@@ -89,8 +89,8 @@ returns-3 c =
     c8.before.before.bound_at.ensures (ap found_of c8.enum_told.given.1) c4.before.before.before.look.ensures
     c4.before.before.number_of_lem.ensures c4.before.table-cell3.ensures c4.missing-after.ensures
 
-pub put-table-spec : {M : Type 1} → statement M
-put-table-spec =
+pub put_table_spec : {M : Type 1} → statement M
+put_table_spec =
     tie.close
     (tie.spec
     is-settled-requires

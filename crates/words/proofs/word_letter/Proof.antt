@@ -18,5 +18,5 @@ letter-byte-requires c κs = search rules
 returns-2 : tie.Need-returns-2
 returns-2 c = s_letter _ _ _ (search rules) (search rules) c.before.before.if1.false c.before.peek.ensures c.letter-byte.ensures
 
-pub word-letter-spec : {M : Type 1} → statement M
-word-letter-spec = tie.close (tie.spec add-if1 returns peek-requires letter-byte-requires returns-2)
+pub word_letter_spec : {M : Type 1} → statement M
+word_letter_spec = tie.close (tie.spec add-if1 returns peek-requires letter-byte-requires returns-2)

@@ -5,5 +5,5 @@ use Rattle.expressions.proofs.text_reader.at_end.Tie as tie
 returns : tie.Need-returns
 returns c = refl
 
-pub at-end-spec : {M : Type 1} → statement M
-at-end-spec = tie.close (tie.spec returns)
+pub at_end_spec : {M : Type 1} → statement M
+at_end_spec = tie.close (tie.spec returns)

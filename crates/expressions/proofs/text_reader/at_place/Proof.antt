@@ -102,9 +102,9 @@ at-place-meets {𝓤 = 𝓤} 𝓛 mem run 𝓣 = walk_Meets 𝓛 at_place.ended 
     (Goes-dropped 𝓛 1 bytes yes (λ κs x f. refl), (Goes-dropped 𝓛 1 (plain (λ _. usize)) yes (λ κs x f. refl), tt)) (at_place.clauses 𝓛 mem run)
     (WpFn 𝓤 𝓛.H 𝓣.C 𝓣.Λ code.function) (WpFn-mono 𝓤 𝓛.H 𝓛.laws 𝓣 code.function) (at-place-walks 𝓛 mem run 𝓣.C 𝓣.Λ)
 
-pub at-place-spec : {M : Type 1} → stated.statement M
+pub at_place_spec : {M : Type 1} → stated.statement M
 unfolding code.routine tables_of
-at-place-spec 𝓤 𝓛 𝓜 𝓡 =
+at_place_spec 𝓤 𝓛 𝓜 𝓡 =
     entered 𝓤 𝓛.H (triple_of 𝓛 at_place.signature (at_place.spec 𝓛 𝓜.mem 𝓡.run))
     (tables 𝓤 𝓛.H 𝓜 𝓡 code.env).C (tables 𝓤 𝓛.H 𝓜 𝓡 code.env).Λ #expressions·text-reader·at-place code.function (code.unfolded 𝓤 𝓛.H 𝓜 𝓡)
     (at-place-meets 𝓛 𝓜.mem 𝓡.run (tables_of 𝓤 𝓛.H 𝓜 (tables 𝓤 𝓛.H 𝓜 𝓡 code.env)))

@@ -185,9 +185,9 @@ ends-at-meets {𝓤 = 𝓤} 𝓛 mem run 𝓣 known-place Known-over
     (WpFn 𝓤 𝓛.H 𝓣.C 𝓣.Λ code.function) (WpFn-mono 𝓤 𝓛.H 𝓛.laws 𝓣 code.function)
     (ends-at-walks 𝓛 mem run 𝓣.C 𝓣.Λ (fm_of 𝓤 𝓛.H 𝓛.laws 𝓣) known-place Known-over)
 
-pub ends-at-spec : {M : Type 1} → stated.statement M
+pub ends_at_spec : {M : Type 1} → stated.statement M
 unfolding code.routine tables_of
-ends-at-spec 𝓤 𝓛 𝓜 𝓡 =
+ends_at_spec 𝓤 𝓛 𝓜 𝓡 =
     entered 𝓤 𝓛.H (triple_of 𝓛 at.signature (at.spec 𝓛 𝓜.mem 𝓡.run))
     (tables 𝓤 𝓛.H 𝓜 𝓡 code.env).C (tables 𝓤 𝓛.H 𝓜 𝓡 code.env).Λ #expressions·text-reader·ends-at code.function (code.unfolded 𝓤 𝓛.H 𝓜 𝓡)
     (ends-at-meets 𝓛 𝓜.mem 𝓡.run (tables_of 𝓤 𝓛.H 𝓜 (tables 𝓤 𝓛.H 𝓜 𝓡 code.env))

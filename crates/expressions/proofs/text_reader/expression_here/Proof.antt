@@ -302,9 +302,9 @@ here-meets {𝓤 = 𝓤} 𝓛 mem run 𝓣 known = walk_Meets 𝓛 here.ended st
     (WpFn 𝓤 𝓛.H 𝓣.C 𝓣.Λ code.function) (WpFn-mono 𝓤 𝓛.H 𝓛.laws 𝓣 code.function)
     (here-walks 𝓛 mem run 𝓣.C 𝓣.Λ (fm_of 𝓤 𝓛.H 𝓛.laws 𝓣) known)
 
-pub expression-here-spec : {M : Type 1} → stated.statement M
+pub expression_here_spec : {M : Type 1} → stated.statement M
 unfolding code.routine tables_of
-expression-here-spec 𝓤 𝓛 𝓜 𝓡 =
+expression_here_spec 𝓤 𝓛 𝓜 𝓡 =
     entered 𝓤 𝓛.H (triple_of 𝓛 here.signature (here.spec 𝓛 𝓜.mem 𝓡.run))
     (tables 𝓤 𝓛.H 𝓜 𝓡 code.env).C (tables 𝓤 𝓛.H 𝓜 𝓡 code.env).Λ #expressions·text-reader·expression-here code.function (code.unfolded 𝓤 𝓛.H 𝓜 𝓡)
     (here-meets 𝓛 𝓜.mem 𝓡.run (tables_of 𝓤 𝓛.H 𝓜 (tables 𝓤 𝓛.H 𝓜 𝓡 code.env))

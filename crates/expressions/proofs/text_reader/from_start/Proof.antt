@@ -330,9 +330,9 @@ from-start-meets {𝓤 = 𝓤} 𝓛 mem run 𝓣 known-place known-here
     (WpFn-mono 𝓤 𝓛.H 𝓛.laws 𝓣 code.function)
     (from-start-walks 𝓛 mem run 𝓣.C 𝓣.Λ (fm_of 𝓤 𝓛.H 𝓛.laws 𝓣) known-place known-here)
 
-pub from-start-spec : {M : Type 1} → stated.statement M
+pub from_start_spec : {M : Type 1} → stated.statement M
 unfolding code.routine tables_of
-from-start-spec 𝓤 𝓛 𝓜 𝓡 =
+from_start_spec 𝓤 𝓛 𝓜 𝓡 =
     entered 𝓤 𝓛.H (triple_of 𝓛 from_start.signature (from_start.spec 𝓛 𝓜.mem 𝓡.run))
     (tables 𝓤 𝓛.H 𝓜 𝓡 code.env).C (tables 𝓤 𝓛.H 𝓜 𝓡 code.env).Λ #expressions·text-reader·from-start code.function (code.unfolded 𝓤 𝓛.H 𝓜 𝓡)
     (from-start-meets 𝓛 𝓜.mem 𝓡.run (tables_of 𝓤 𝓛.H 𝓜 (tables 𝓤 𝓛.H 𝓜 𝓡 code.env))

@@ -166,9 +166,9 @@ is-over-meets {𝓤 = 𝓤} 𝓛 mem run 𝓣 known-end
     (WpFn 𝓤 𝓛.H 𝓣.C 𝓣.Λ code.function) (WpFn-mono 𝓤 𝓛.H 𝓛.laws 𝓣 code.function)
     (is-over-walks 𝓛 mem run 𝓣.C 𝓣.Λ (fm_of 𝓤 𝓛.H 𝓛.laws 𝓣) known-end)
 
-pub is-over-spec : {M : Type 1} → stated.statement M
+pub is_over_spec : {M : Type 1} → stated.statement M
 unfolding code.routine tables_of
-is-over-spec 𝓤 𝓛 𝓜 𝓡 =
+is_over_spec 𝓤 𝓛 𝓜 𝓡 =
     entered 𝓤 𝓛.H (triple_of 𝓛 is-over.signature (is-over.spec 𝓛 𝓜.mem 𝓡.run))
     (tables 𝓤 𝓛.H 𝓜 𝓡 code.env).C (tables 𝓤 𝓛.H 𝓜 𝓡 code.env).Λ #expressions·text-reader·is-over code.function (code.unfolded 𝓤 𝓛.H 𝓜 𝓡)
     (is-over-meets 𝓛 𝓜.mem 𝓡.run (tables_of 𝓤 𝓛.H 𝓜 (tables 𝓤 𝓛.H 𝓜 𝓡 code.env))

@@ -53,8 +53,8 @@ returns-2 c =
     let e : l.i ≡ a.to = omega arith in
     sym (l.invariant.1 ∙ rw e (name_end a.f.now a.to))
 
-pub are-name-bytes-spec : {M : Type 1} → statement M
-are-name-bytes-spec =
+pub are_name_bytes_spec : {M : Type 1} → statement M
+are_name_bytes_spec =
     tie.close
     (tie.spec
     invariant-loop

@@ -25,5 +25,5 @@ returns-3 : tie.Need-returns-3
 unfolding is_file_lem
 returns-3 c = simp (le-leb 1 (length c.before.before.before.args.f.now) (omega arith), le-leb _ 32768 c.before.if2.false)
 
-pub is-file-spec : {M : Type 1} → statement M
-is-file-spec = tie.close (tie.spec returns returns-2 sub-result shared-slice-read-result returns-3)
+pub is_file_spec : {M : Type 1} → statement M
+is_file_spec = tie.close (tie.spec returns returns-2 sub-result shared-slice-read-result returns-3)

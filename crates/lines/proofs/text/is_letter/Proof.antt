@@ -11,5 +11,5 @@ returns-2 : tie.Need-returns-2
 unfolding is_letter_lem
 returns-2 c = simp (le-leb 97 _ c.if1.false)
 
-pub is-letter-spec : {M : Type 1} → statement M
-is-letter-spec = tie.close (tie.spec returns returns-2)
+pub is_letter_spec : {M : Type 1} → statement M
+is_letter_spec = tie.close (tie.spec returns returns-2)

@@ -68,8 +68,8 @@ returns-5 c =
     (sym c3.are-name-bytes.ensures ∙ not-false _ c.before.before.if4.false) h in
     c.no_letter_fact.ensures ∙ rw c.before.letter.ensures (sym n)
 
-pub is-name-spec : {M : Type 1} → statement M
-is-name-spec =
+pub is_name_spec : {M : Type 1} → statement M
+is_name_spec =
     tie.close
     (tie.spec
     returns

@@ -29,5 +29,5 @@ returns-4 c =
     let c3 = c.before.before.before in
     simp (sym c3.is-letter.ensures ∙ c.before.before.if1.false, ne_eqb _ 95 c.before.if2.false, le-leb 48 _ c.if3.false, or-false)
 
-pub is-name-byte-spec : {M : Type 1} → statement M
-is-name-byte-spec = tie.close (tie.spec is-letter-requires returns returns-2 returns-3 returns-4)
+pub is_name_byte_spec : {M : Type 1} → statement M
+is_name_byte_spec = tie.close (tie.spec is-letter-requires returns returns-2 returns-3 returns-4)

@@ -68,8 +68,8 @@ returns-3 c =
     let l = c.before.loop in
     sym (l.invariant.3 ∙ word_end a.f.now a.w.now a.p.from a.p.to l.i (omega arith) (omega arith))
 
-pub is-text-spec : {M : Type 1} → statement M
-is-text-spec =
+pub is_text_spec : {M : Type 1} → statement M
+is_text_spec =
     tie.close
     (tie.spec
     invariant-loop

@@ -21,5 +21,5 @@ returns-2 c =
     let a = c.before.before.args in
     sym (letter_one a.f.now a.p.from a.p.to (omega arith) (omega arith))
 
-pub letter-spec : {M : Type 1} → statement M
-letter-spec = tie.close (tie.spec sub-if1 returns shared-slice-read-result returns-2)
+pub letter_spec : {M : Type 1} → statement M
+letter_spec = tie.close (tie.spec sub-if1 returns shared-slice-read-result returns-2)

@@ -27,5 +27,5 @@ returns-5 c =
     let c3 = c.before.before.before in
     simp (ne_eqb _ 115 c3.if1.false, ne_eqb _ 111 c.before.before.if2.false, ne_eqb _ 97 c.before.if3.false, ne_eqb _ 116 c.if4.false)
 
-pub no-letter-spec : {M : Type 1} → statement M
-no-letter-spec = tie.close (tie.spec returns returns-2 returns-3 returns-4 returns-5)
+pub no_letter_spec : {M : Type 1} → statement M
+no_letter_spec = tie.close (tie.spec returns returns-2 returns-3 returns-4 returns-5)

@@ -128,8 +128,8 @@ returns-7 c =
     let e : l.i ≡ a.p.to = omega arith in
     sym (l.invariant.5 ∙ rw e (digit_end a.f.now a.p.to l.n))
 
-pub number-at-spec : {M : Type 1} → statement M
-number-at-spec =
+pub number_at_spec : {M : Type 1} → statement M
+number_at_spec =
     tie.close
     (tie.spec
     invariant-loop

@@ -48,8 +48,8 @@ returns-2 c =
     let e : l.i ≡ a.to = omega arith in
     (sym (l.invariant.2 ∙ rw e (end_none a.sep a.f.now a.to)), omega arith)
 
-pub piece-end-spec : {M : Type 1} → statement M
-piece-end-spec =
+pub piece_end_spec : {M : Type 1} → statement M
+piece_end_spec =
     tie.close
     (tie.spec
     invariant-loop

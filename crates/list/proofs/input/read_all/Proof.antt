@@ -67,6 +67,6 @@ same-length-3 c = search rules
 returns-3 : tie.Need-returns-3 invariant-loop decreases-loop
 returns-3 c = (omega arith, simp length-take (omega arith))
 
-pub read-all-spec : {M : Type 1} → statement M
-read-all-spec = tie.close (tie.spec invariant-loop decreases-loop loop-holds sub_read part-read-start part-read-end read-requires same_length returns sub-count
+pub read_all_spec : {M : Type 1} → statement M
+read_all_spec = tie.close (tie.spec invariant-loop decreases-loop loop-holds sub_read part-read-start part-read-end read-requires same_length returns sub-count
     part-count-start part-count-end count-requires add_done loop-less loop-again same-length-2 returns-2 same-length-3 returns-3)

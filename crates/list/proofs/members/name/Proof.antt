@@ -48,6 +48,6 @@ returns-2 c = search rules
 returns-3 : tie.Need-returns-3 invariant-loop decreases-loop
 returns-3 c = search rules
 
-pub name-spec : {M : Type 1} → statement M
-name-spec = tie.close (tie.spec invariant-loop decreases-loop byte-requires returns add-i loop-holds shared-slice-read-if2 shared-slice-read-byte byte-requires-2 add-i-2
+pub name_spec : {M : Type 1} → statement M
+name_spec = tie.close (tie.spec invariant-loop decreases-loop byte-requires returns add-i loop-holds shared-slice-read-if2 shared-slice-read-byte byte-requires-2 add-i-2
     loop-less loop-again returns-2 returns-3)

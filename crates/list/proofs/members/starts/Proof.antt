@@ -37,5 +37,5 @@ loop-again c = search rules
 returns : tie.Need-returns invariant-loop decreases-loop
 returns c = search rules
 
-pub starts-spec : {M : Type 1} → statement M
-starts-spec = tie.close (tie.spec invariant-loop decreases-loop loop-holds shared-slice-read-noted add-noted noted-requires add-i loop-less loop-again returns)
+pub starts_spec : {M : Type 1} → statement M
+starts_spec = tie.close (tie.spec invariant-loop decreases-loop loop-holds shared-slice-read-noted add-noted noted-requires add-i loop-less loop-again returns)

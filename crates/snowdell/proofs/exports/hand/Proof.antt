@@ -75,8 +75,8 @@ returns-2 c =
     ∙ ap (λ bs. put 0 bs a.numbers.now) (sym (take_tab (length a.ns.now) a.ns.now (omega arith)) ∙ take-length a.ns.now)
     ∙ written_put _ a.numbers.now ∙ hands _ _ (omega (arith, c.before.before.if1.false))
 
-pub hand-spec : {M : Type 1} → statement M
-hand-spec =
+pub hand_spec : {M : Type 1} → statement M
+hand_spec =
     tie.close
     (tie.spec
     invariant-loop

@@ -44,8 +44,8 @@ returns-2 c =
     check_hands _ _ _ _ _ _ _ _ c10.if1.false c8.wide.ensures c5.before.before.wide2.ensures c5.before.wide3.ensures c5.wide4.ensures
     c8.before.check.ensures c.before.before.hand.ensures
 
-pub snowdell-check-spec : {M : Type 1} → statement M
-snowdell-check-spec =
+pub snowdell_check_spec : {M : Type 1} → statement M
+snowdell_check_spec =
     tie.close
     (tie.spec
     returns

@@ -43,8 +43,8 @@ returns-2 c =
     c.before.before.hand.ensures in
     (h.0, (h.1, (h.2, h.3)))
 
-pub snowdell-compose-spec : {M : Type 1} → statement M
-snowdell-compose-spec =
+pub snowdell_compose_spec : {M : Type 1} → statement M
+snowdell_compose_spec =
     tie.close
     (tie.spec
     returns

@@ -39,8 +39,8 @@ same_length c = search rules
 same-length-2 : tie.Need-same-length-2
 same-length-2 c = search rules
 
-pub snowdell-decide-spec : {M : Type 1} → statement M
-snowdell-decide-spec =
+pub snowdell_decide_spec : {M : Type 1} → statement M
+snowdell_decide_spec =
     tie.close
     (tie.spec
     returns
