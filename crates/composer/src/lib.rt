@@ -29,7 +29,7 @@ pub fn accesses(n: Counts) -> usize
 }
 
 // What a run goes by besides its slices: how many rules there are, which tables are here, how many grants, members and accesses there are, and the limit.
-#[derive(Drop)]
+#[derive(Clone, Copy)]
 struct Setting {
     many: usize,
     here: [u8; 16],
@@ -40,7 +40,7 @@ struct Setting {
 }
 
 // The sets of the bindings in force, the innermost first: the first `count` of four.
-#[derive(Drop)]
+#[derive(Clone, Copy)]
 struct Bound {
     count: u8,
     sets: [u8; 4],

@@ -13,7 +13,7 @@ use sets::{copy, count};
 
 // Number, line and place, all 0 when accepted; how many accesses there are, how many of them are permitted and undecided, and the
 // rounds, all 0 when refused.
-#[derive(Drop)]
+#[derive(Clone, Copy)]
 pub struct Composed {
     pub number: u8,
     pub line: usize,

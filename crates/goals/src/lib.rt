@@ -16,7 +16,7 @@ use state::{bad_counts, late};
 use words::{Nodes, Parsed, Place};
 
 // An E line's number, 0 where it is good, with the place of a refusal; its limit, and the nodes of its expression where it is good.
-#[derive(Drop)]
+#[derive(Clone, Copy)]
 pub struct Goal {
     pub number: u8,
     pub place: usize,

@@ -10,14 +10,14 @@ ghost use Rattle.reader.specs.File.{is_file_lem};
 ghost use Rattle.lines.specs.Parsed.{text_of, Within, number_of};
 
 // A part of the file: the bytes from one place up to, not including, another.
-#[derive(Drop)]
+#[derive(Clone, Copy)]
 pub struct Part {
     pub from: usize,
     pub to: usize,
 }
 
 // The number that a part spells, or that it spells none.
-#[derive(Drop)]
+#[derive(Clone, Copy)]
 pub enum Number {
     Is(u16),
     Wrong,

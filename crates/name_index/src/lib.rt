@@ -21,14 +21,14 @@ const LOW_32_BITS: u64 = 4294967296;
 const LOW_8_BITS: u32 = 256;
 
 // The number of a name within its group.
-#[derive(Drop)]
+#[derive(Clone, Copy)]
 pub enum Found {
     At(u8),
     Nothing,
 }
 
 // What a search found, and how many slots it read, the one that ended it included.
-#[derive(Drop)]
+#[derive(Clone, Copy)]
 pub struct Lookup {
     pub found: Found,
     pub read: usize,

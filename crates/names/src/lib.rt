@@ -15,7 +15,7 @@ use name_index::{Found, Lookup, insert, is_name};
 // ---- looking up a name
 
 // What a name is asked for as, in the sort 0, 1 or 2.
-#[derive(Drop)]
+#[derive(Clone, Copy)]
 pub enum NameKind {
     Table,
     RuleSet,
@@ -24,7 +24,7 @@ pub enum NameKind {
 }
 
 // How many names each group has.
-#[derive(Drop)]
+#[derive(Clone, Copy)]
 pub struct NameCounts {
     pub subjects: u8,
     pub objects: u8,
@@ -101,7 +101,7 @@ fn sort_tag(s: u8) -> u8
 }
 
 // A group of names: its first entry, how many it has, and the tag that is wanted; 3 for any.
-#[derive(Drop)]
+#[derive(Clone, Copy)]
 pub struct Span {
     pub base: usize,
     pub count: u8,

@@ -10,7 +10,7 @@ ghost use Rattle.nodes.specs.Cells.{cell_in, with_cell, node_of, label, HasTree}
 // A node. Kind 0: the table with the number. Kinds 1, 2 and 3: `+`, `&` and `-`. Kind 4: `o`. Kind 5: the scope of a comparison, 1 to 5
 // for `<=`, `>=`, `<`, `>` and `=`, with the member of the sort. Kind 6: the scope of a predicate of the sort. Kind 7: the closure by a rule set.
 // Kind 8: a template `(t:x.E)(F)`, after E's nodes and then F's; within E x is table 0, and table n + 1 is table n outside.
-#[derive(Drop)]
+#[derive(Clone, Copy)]
 pub struct Cell {
     pub kind: u8,
     pub sort: u8,
@@ -86,7 +86,7 @@ fn larger(x: usize, y: usize) -> usize
 }
 
 // Where a tree begins, how many sets it holds, and how many bindings are in force at once.
-#[derive(Drop)]
+#[derive(Clone, Copy)]
 pub struct Counted {
     pub start: usize,
     pub sets: usize,

@@ -20,7 +20,7 @@ use state::{
 use words::{Nodes, Place};
 
 // A file refused with number, line and place; or the number 0, the state after the file's lines, and the goal of its E line.
-#[derive(Drop)]
+#[derive(Clone, Copy)]
 pub struct Reading {
     pub number: u8,
     pub line: usize,

@@ -14,7 +14,7 @@ use algebra::{Action, Counts, Object, Subject, access, scoped};
 use sets::wide;
 
 // A scope as the code holds it. Kinds 1 to 5: a member le, ge, lt, gt or eq the member x, in the sort 0, 1 or 2. Kind 6: the predicate x.
-#[derive(Drop)]
+#[derive(Clone, Copy)]
 pub struct StoredScope {
     pub kind: u8,
     pub sort: u8,

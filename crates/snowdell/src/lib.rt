@@ -19,7 +19,7 @@ use sets::clear;
 // ---- Check
 
 // Number, line and place, all 0 when accepted; and how many members each sort has, all 0 when refused.
-#[derive(Drop)]
+#[derive(Clone, Copy)]
 pub struct Checked {
     pub number: u8,
     pub line: usize,

@@ -35,7 +35,7 @@ calls t = (
   larger-reads.Learnt,
 )
 
-sets-held-sub-own : (t : ℕ) → sets-held-lts.Need-overflow-sub-own (calls t) (sets-held-at t) sets-held.Post
+sets-held-sub-own : (t : ℕ) → sets-held-lts.Need-overflow_sub-own (calls t) (sets-held-at t) sets-held.Post
 sets-held-sub-own t c =
     let start = c.before in
     omega (arith, some_tree start.requires.1)
@@ -51,7 +51,7 @@ sets-held-returns t c =
     let start = c2.before.before in
     held_table start.requires.1 c2.Cell-at.result c2.Cell-at.ensures c.if1.true
 
-sets-held-sets-held-requires : (t : ℕ) → sets-held-lts.Need-sets-held-requires (calls t) (sets-held-at t) sets-held.Post
+sets-held-sets-held-requires : (t : ℕ) → sets-held-lts.Need-sets_held-requires (calls t) (sets-held-at t) sets-held.Post
 sets-held-sets-held-requires t c κs =
     let c2 = c.before.before in
     let c4 = c2.before.before in

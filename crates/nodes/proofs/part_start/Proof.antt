@@ -23,19 +23,19 @@ returns c =
     let m = label c2.before.before.args.m.now in
     sym (back_zero m c2.loop.left) ∙ ap (λ j. back m j c2.loop.left) (sym c.if1.true) ∙ c2.loop.invariant.2
 
-sub-j : tie.Need-overflow-sub-j invariant-loop decreases-loop
+sub-j : tie.Need-overflow_sub-j invariant-loop decreases-loop
 sub-j c = omega (arith, c.if1.false)
 
 cell-at-requires : tie.Need-cell-at-requires invariant-loop decreases-loop
 cell-at-requires c κs = omega (arith, c.if1.false, c.before.before.loop.invariant.0, c.before.before.before.before.requires.0)
 
-sub-left : tie.Need-overflow-sub-left invariant-loop decreases-loop
+sub-left : tie.Need-overflow_sub-left invariant-loop decreases-loop
 sub-left c = omega arith
 
-parts-of-requires : tie.Need-parts-of-requires invariant-loop decreases-loop
+parts-of-requires : tie.Need-parts_of-requires invariant-loop decreases-loop
 parts-of-requires c κs = tt
 
-add_left : tie.Need-overflow-add-left invariant-loop decreases-loop
+add_left : tie.Need-overflow_add-left invariant-loop decreases-loop
 add_left c =
     let c4 = c.before.before.before.before in
     omega (arith, c.parts_of.ensures.1, c4.loop.invariant.1, c4.loop.invariant.0, c4.before.before.requires.1)
