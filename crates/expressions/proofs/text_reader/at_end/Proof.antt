@@ -1,9 +1,0 @@
-use mathlib.Core.Path.{refl}
-use Rattle.expressions.proofs.text_reader.at_end.Statement.{statement}
-use Rattle.expressions.proofs.text_reader.at_end.Tie as tie
-
-returns : tie.Need-returns
-returns c = refl
-
-pub at_end_spec : {M : Type 1} → statement M
-at_end_spec = tie.close (tie.spec returns)

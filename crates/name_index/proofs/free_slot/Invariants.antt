@@ -1,0 +1,12 @@
+use Prim.Native.Nat.{◌-◌}
+use lib.Seq.{slice}
+use Rattle.name_index.proofs.Parts.{Freeing, freeing_first, freeing_found, freeing_next, freeing_end}
+use borrow.Author.Rules.{rules}
+use native.Mathlib.Omega.{arith}
+use Rattle.name_index.proofs.free_slot.Given as goal
+
+abbrev pub invariant-loop-taken : goal.invariant-loop-taken
+invariant-loop-taken l = Freeing l.slots l.at (slice l.from l.to l.t) l.j l.taken
+
+abbrev pub decreases-loop-taken : goal.decreases-loop-taken
+decreases-loop-taken l = 256 - l.taken

@@ -1,0 +1,11 @@
+use mathlib.Core.Path.{sym, subst}
+use Rattle.reading.specs.Reading.{ReadAs}
+use Rattle.running.proofs.Lent.{lent_part, lent_cleared}
+use borrow.Author.Rules.{rules}
+use Rattle.running.proofs.read_within.Goals as goal
+
+pub returns : goal.returns
+returns c =
+    let read-policy = c.read_policy in 
+    let args = c.args in record { read_as = subst (λ p. ReadAs args.f.now p read-policy.result)
+          (sym (lent_part args.w.now read-policy.new.1.0 c.requires read-policy.auto.1.0)) read-policy.ensures.0; w_unchanged = lent_cleared args.w.now read-policy.new.1.0 c.requires read-policy.auto.1.0 }

@@ -1,0 +1,15 @@
+use mathlib.Core.Path.{ap, ◌∙◌}
+use Rattle.deciding.specs.Decision.{decided_of}
+use Rattle.deciding.proofs.Deciding.{short_memory}
+use Rattle.snowdell.proofs.Promises.{decide_promises}
+use borrow.Author.Rules.{rules}
+use Rattle.snowdell.proofs.decide.Goals as goal
+
+pub returns-then-w-lt65536 : goal.returns-then-w-lt65536
+returns-then-w-lt65536 c = decide_promises _ _ _ _ _ _ _ (short_memory _ _ _ _ _ c.if-w-lt65536.true _ c.not_decided.ensures)
+
+pub returns : goal.returns
+returns c =
+    let decide-within = c.decide_within-r in
+    decide_promises _ _ _ _ _ _ _
+    (ap (decided_of decide-within.result) (c.clear.ensures ∙ decide-within.ensures.1) ∙ decide-within.ensures.0)

@@ -1,0 +1,13 @@
+use mathlib.Core.Path.{sym, ap}
+use Rattle.grammar.specs.Lookup.{found}
+use Rattle.names.specs.Entries.{found_of}
+use borrow.Author.Rules.{rules}
+use Rattle.state.proofs.is_there.Goals as goal
+
+pub returns-in-At : goal.returns-in-At
+unfolding found
+returns-in-At c = sym (ap (λ x. found (found_of x)) c.enum_told-1.given.1)
+
+pub returns-in-Nothing : goal.returns-in-Nothing
+unfolding found
+returns-in-Nothing c = sym (ap (λ x. found (found_of x)) c.enum_told-in-Nothing-1.given.1)

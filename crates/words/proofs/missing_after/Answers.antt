@@ -1,0 +1,12 @@
+use mathlib.Core.Path.{◌∙◌}
+use Rattle.words.specs.Cells.{place_after}
+use borrow.Author.Rules.{rules}
+use Rattle.words.proofs.missing_after.Goals as goal
+
+pub returns-in-At : goal.returns-in-At
+unfolding place_after
+returns-in-At c = rw c.n-1.given.1
+
+pub returns-in-Nothing : goal.returns-in-Nothing
+unfolding place_after
+returns-in-Nothing c = c.first_place.ensures ∙ rw c.enum_told-1.given.1

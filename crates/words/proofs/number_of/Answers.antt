@@ -1,0 +1,11 @@
+use Rattle.grammar.specs.Lookup.{place}
+use borrow.Author.Rules.{rules}
+use Rattle.words.proofs.number_of.Goals as goal
+
+pub returns-in-At : goal.returns-in-At
+unfolding place
+returns-in-At c = rw c.n-1.given.1
+
+pub returns-in-Nothing : goal.returns-in-Nothing
+unfolding place
+returns-in-Nothing c = rw c.enum_told-1.given.1
