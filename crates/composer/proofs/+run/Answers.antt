@@ -43,7 +43,7 @@ returns-then-c-eq0 t c =
     let low = c.requires.in_bounds.1 in 
     let more = c.requires.ready.0 in 
     let ready = c.requires.ready.1 in record { few_rounds = λ e lo en. omega arith; all_answered = λ fr st. let size = ready.set ∙ sym (accesses_total fr s.n a.t.now st.stands) in
-          ran_table a.m.now a.end own.result own.ensures fr s a.b a.k (few_accesses ready) size (sized_set z) low a.w.now put.new.0
+          ran_table a.m.now a.end own.result own.ensures fr s a.b a.k (few_accesses ready) size (sized_set z) low a.w.now put.new.w
           c.if-c-eq0.true more.0 put.ensures }
 
 pub part_start-mid-requires : goal.part_start-mid-requires
@@ -72,7 +72,7 @@ run-d-requires t c =
     let ready = c.requires.ready.1 in
     let f = sized_two z own.result own.ensures c.if-c-eq0.false c.if-c-lt4.true mid.result mid.ensures in
     let low = below_more a.k (a.k + 1) a.b (omega arith) c.requires.in_bounds.1 in
-    (omega (arith, c.requires.sized, sized_some z), ((f.1, low), ((omega (arith, more.0, c.run-a.auto.0), more.1, more.2, more.3), ready)))
+    (omega (arith, c.requires.sized, sized_some z), ((f.1, low), ((omega (arith, more.0, c.run-a.auto.w), more.1, more.2, more.3), ready)))
 
 pub overflow_sub-c : goal.overflow_sub-c
 overflow_sub-c t c = omega (arith, c.if-c-eq0.false)
@@ -85,7 +85,7 @@ combine-requires t c =
     let more = c.requires.ready.0 in
     let ready = c.requires.ready.1 in
     let f = sized_two z own.result own.ensures c.if-c-eq0.false c.if-c-lt4.true mid.result mid.ensures in
-    (sized_set f.1, few_accesses ready, omega (arith, more.0, c.run-a.auto.0, c.run-d.auto.0))
+    (sized_set f.1, few_accesses ready, omega (arith, more.0, c.run-a.auto.w, c.run-d.auto.w))
 
 pub overflow_add-result : goal.overflow_add-result
 overflow_add-result t c =
@@ -95,7 +95,7 @@ overflow_add-result t c =
     let two = c.run-d in
     let z = c.requires.in_bounds.0 in
     let f = sized_two z own.result own.ensures c.if-c-eq0.false c.if-c-lt4.true mid.result mid.ensures in
-    omega (arith, few_rounds f.0 one.result one.ensures.0, few_rounds f.1 two.result two.ensures.0)
+    omega (arith, few_rounds f.0 one.result one.ensures.few_rounds, few_rounds f.1 two.result two.ensures.few_rounds)
 
 pub returns-then-c-lt4 : goal.returns-then-c-lt4
 returns-then-c-lt4 t c =
@@ -110,10 +110,10 @@ returns-then-c-lt4 t c =
     let low = c.requires.in_bounds.1 in 
     let more = c.requires.ready.0 in 
     let ready = c.requires.ready.1 in record { few_rounds = few_two a.m.now a.end own.result own.ensures mid.result one.result two.result c.if-c-eq0.false c.if-c-lt4.true mid.ensures
-          one.ensures.0 two.ensures.0; all_answered = λ fr st. let size = ready.set ∙ sym (accesses_total fr s.n a.t.now st.stands) in
+          one.ensures.few_rounds two.ensures.few_rounds; all_answered = λ fr st. let size = ready.set ∙ sym (accesses_total fr s.n a.t.now st.stands) in
           ran_two a.m.now a.end own.result own.ensures fr s a.b a.k (few_accesses ready) size (sized_set z) low mid.result a.w.now
-          one.new.0 two.new.0 put.new.0 one.result two.result c.if-c-eq0.false c.if-c-lt4.true
-          mid.ensures (omega (arith, more.0, one.auto.0, two.auto.0)) (one.ensures.1 fr st) (two.ensures.1 fr st)
+          one.new.w two.new.w put.new.w one.result two.result c.if-c-eq0.false c.if-c-lt4.true
+          mid.ensures (omega (arith, more.0, one.auto.w, two.auto.w)) (one.ensures.all_answered fr st) (two.ensures.all_answered fr st)
           put.ensures }
 
 pub part_start-third-requires : goal.part_start-third-requires
@@ -151,7 +151,7 @@ run-d-requires-then-c-eq4 t c =
     let ready = c.requires.ready.1 in
     let f = sized_three z own.result own.ensures c.if-c-eq4.true second.result third.result third.ensures second.ensures in
     let low = below_more a.k (a.k + 1) a.b (omega arith) c.requires.in_bounds.1 in
-    (omega (arith, c.requires.sized, f.4), ((f.1, low), ((omega (arith, more.0, c.run-a-then-c-eq4.auto.0), more.1, more.2, more.3), ready)))
+    (omega (arith, c.requires.sized, f.4), ((f.1, low), ((omega (arith, more.0, c.run-a-then-c-eq4.auto.w), more.1, more.2, more.3), ready)))
 
 pub overflow_add-k-then-c-eq4-2 : goal.overflow_add-k-then-c-eq4-2
 overflow_add-k-then-c-eq4-2 t c = omega (arith, sized_set c.requires.in_bounds.0)
@@ -167,7 +167,7 @@ run-e-requires t c =
     let ready = c.requires.ready.1 in
     let f = sized_three z own.result own.ensures c.if-c-eq4.true second.result third.result third.ensures second.ensures in
     let low = below_more a.k (a.k + 2) a.b (omega arith) c.requires.in_bounds.1 in
-    let long : 65536 ≤ length c.run-d-then-c-eq4.new.0 = omega (arith, more.0, c.run-a-then-c-eq4.auto.0, c.run-d-then-c-eq4.auto.0) in
+    let long : 65536 ≤ length c.run-d-then-c-eq4.new.w = omega (arith, more.0, c.run-a-then-c-eq4.auto.w, c.run-d-then-c-eq4.auto.w) in
     (omega (arith, c.requires.sized, sized_some z), ((f.2, low), ((long, more.1, more.2, more.3), ready)))
 
 pub replace-requires : goal.replace-requires
@@ -179,7 +179,7 @@ replace-requires t c =
     let more = c.requires.ready.0 in
     let ready = c.requires.ready.1 in
     let f = sized_three z own.result own.ensures c.if-c-eq4.true second.result third.result third.ensures second.ensures in
-    (sized_set f.2, few_accesses ready, omega (arith, more.0, c.run-a-then-c-eq4.auto.0, c.run-d-then-c-eq4.auto.0, c.run-e.auto.0))
+    (sized_set f.2, few_accesses ready, omega (arith, more.0, c.run-a-then-c-eq4.auto.w, c.run-d-then-c-eq4.auto.w, c.run-e.auto.w))
 
 pub overflow_add-result-then-c-eq4 : goal.overflow_add-result-then-c-eq4
 overflow_add-result-then-c-eq4 t c =
@@ -190,7 +190,7 @@ overflow_add-result-then-c-eq4 t c =
     let two = c.run-d-then-c-eq4 in
     let z = c.requires.in_bounds.0 in
     let f = sized_three z own.result own.ensures c.if-c-eq4.true second.result third.result third.ensures second.ensures in
-    omega (arith, few_rounds f.0 one.result one.ensures.0, few_rounds f.1 two.result two.ensures.0)
+    omega (arith, few_rounds f.0 one.result one.ensures.few_rounds, few_rounds f.1 two.result two.ensures.few_rounds)
 
 pub overflow_add-result-then-c-eq4-2 : goal.overflow_add-result-then-c-eq4-2
 overflow_add-result-then-c-eq4-2 t c =
@@ -204,9 +204,9 @@ overflow_add-result-then-c-eq4-2 t c =
     let f = sized_three z own.result own.ensures c.if-c-eq4.true second.result third.result third.ensures second.ensures in
     omega (
       arith,
-      few_rounds f.0 one.result one.ensures.0,
-      few_rounds f.1 two.result two.ensures.0,
-      few_rounds f.2 three.result three.ensures.0,
+      few_rounds f.0 one.result one.ensures.few_rounds,
+      few_rounds f.1 two.result two.ensures.few_rounds,
+      few_rounds f.2 three.result three.ensures.few_rounds,
     )
 
 pub returns-then-c-eq4 : goal.returns-then-c-eq4
@@ -224,12 +224,12 @@ returns-then-c-eq4 t c =
     let low = c.requires.in_bounds.1 in 
     let more = c.requires.ready.0 in 
     let ready = c.requires.ready.1 in record { few_rounds = few_three a.m.now a.end own.result own.ensures second.result third.result one.result two.result three.result c.if-c-eq4.true
-          third.ensures second.ensures one.ensures.0 two.ensures.0 three.ensures.0; all_answered = λ fr st. let size = ready.set ∙ sym (accesses_total fr s.n a.t.now st.stands) in
+          third.ensures second.ensures one.ensures.few_rounds two.ensures.few_rounds three.ensures.few_rounds; all_answered = λ fr st. let size = ready.set ∙ sym (accesses_total fr s.n a.t.now st.stands) in
           ran_three a.m.now a.end own.result own.ensures fr s a.b a.k (few_accesses ready) size (sized_set z) low second.result
           third.result a.w.now
-          one.new.0 two.new.0 three.new.0 put.new.0 one.result two.result three.result c.if-c-eq4.true
-          third.ensures second.ensures (omega (arith, more.0, one.auto.0, two.auto.0, three.auto.0))
-          (one.ensures.1 fr st) (two.ensures.1 fr st) (three.ensures.1 fr st) put.ensures }
+          one.new.w two.new.w three.new.w put.new.w one.result two.result three.result c.if-c-eq4.true
+          third.ensures second.ensures (omega (arith, more.0, one.auto.w, two.auto.w, three.auto.w))
+          (one.ensures.all_answered fr st) (two.ensures.all_answered fr st) (three.ensures.all_answered fr st) put.ensures }
 
 pub run-a-requires-2 : goal.run-a-requires-2
 run-a-requires-2 t c =
@@ -247,7 +247,7 @@ scope-requires t c =
     let z = c.requires.in_bounds.0 in 
     let more = c.requires.ready.0 in 
     let ready = c.requires.ready.1 in 
-    let five : 5 ≤ own.result.kind = omega (arith, c.if-c-lt4.false, c.if-c-eq4.false) in record { room = ((sized_set z, ready.sized.few, omega (arith, more.0, c.run-a-2.auto.0)), ready.sized, ready.table); coded = scope_coded s.n own.result sc.result (own_fits z own.result own.ensures) five c.if-c-lt7.true sc.ensures ready.sized }
+    let five : 5 ≤ own.result.kind = omega (arith, c.if-c-lt4.false, c.if-c-eq4.false) in record { room = ((sized_set z, ready.sized.few, omega (arith, more.0, c.run-a-2.auto.w)), ready.sized, ready.table); coded = scope_coded s.n own.result sc.result (own_fits z own.result own.ensures) five c.if-c-lt7.true sc.ensures ready.sized }
 
 pub returns-then-c-lt7 : goal.returns-then-c-lt7
 returns-then-c-lt7 t c =
@@ -261,17 +261,17 @@ returns-then-c-lt7 t c =
     let low = c.requires.in_bounds.1 in 
     let more = c.requires.ready.0 in 
     let ready = c.requires.ready.1 in 
-    let five : 5 ≤ own.result.kind = omega (arith, c.if-c-lt4.false, c.if-c-eq4.false) in record { few_rounds = few_scope a.m.now a.end own.result own.ensures part.result five c.if-c-lt7.true part.ensures.0; all_answered = λ fr st. let size = ready.set ∙ sym (accesses_total fr s.n a.t.now st.stands) in
-          ran_scope a.m.now a.end own.result own.ensures fr s a.b a.k (few_accesses ready) size (sized_set z) low a.w.now part.new.0
-          part.result (omega (arith, more.0, part.auto.0)) (part.ensures.1 fr st) s.n a.t.now
-          sc.result put.new.0 (own_fits z own.result own.ensures) five c.if-c-lt7.true st.stands sc.ensures
+    let five : 5 ≤ own.result.kind = omega (arith, c.if-c-lt4.false, c.if-c-eq4.false) in record { few_rounds = few_scope a.m.now a.end own.result own.ensures part.result five c.if-c-lt7.true part.ensures.few_rounds; all_answered = λ fr st. let size = ready.set ∙ sym (accesses_total fr s.n a.t.now st.stands) in
+          ran_scope a.m.now a.end own.result own.ensures fr s a.b a.k (few_accesses ready) size (sized_set z) low a.w.now part.new.w
+          part.result (omega (arith, more.0, part.auto.w)) (part.ensures.all_answered fr st) s.n a.t.now
+          sc.result put.new.w (own_fits z own.result own.ensures) five c.if-c-lt7.true st.stands sc.ensures
           (put.ensures fr st.stands) }
 
 pub close_set-used-requires : goal.close_set-used-requires
 close_set-used-requires t c =
     let z = c.requires.in_bounds.0 in 
     let more = c.requires.ready.0 in 
-    let ready = c.requires.ready.1 in record { room = ((sized_set z, few_accesses ready, omega (arith, more.0, c.run-a-2.auto.0)), more.1); ready = ready }
+    let ready = c.requires.ready.1 in record { room = ((sized_set z, few_accesses ready, omega (arith, more.0, c.run-a-2.auto.w)), more.1); ready = ready }
 
 pub overflow_add-result-then-c-lt8 : goal.overflow_add-result-then-c-lt8
 overflow_add-result-then-c-lt8 t c =
@@ -279,7 +279,7 @@ overflow_add-result-then-c-lt8 t c =
     let part = c.run-a-2 in
     let more = c.requires.ready.0 in
     let f = sized_one c.requires.in_bounds.0 own.result own.ensures (omega (arith, c.if-c-lt4.false, c.if-c-eq4.false)) in
-    omega (arith, few_rounds f part.result part.ensures.0, c.close_set-used.ensures.0, more.3)
+    omega (arith, few_rounds f part.result part.ensures.few_rounds, c.close_set-used.ensures.0, more.3)
 
 pub returns-then-c-lt8 : goal.returns-then-c-lt8
 returns-then-c-lt8 t c =
@@ -293,10 +293,10 @@ returns-then-c-lt8 t c =
     let more = c.requires.ready.0 in 
     let ready = c.requires.ready.1 in 
     let seven : 7 ≤ own.result.kind = omega (arith, c.if-c-lt7.false) in record { few_rounds = λ e lo en. let few = few_closure a.m.now a.end own.result own.ensures part.result put.result seven c.if-c-lt8.true in
-          omega (arith, few (omega (arith, put.ensures.0, more.3)) part.ensures.0 e lo en); all_answered = λ fr st. let size = ready.set ∙ sym (accesses_total fr s.n a.t.now st.stands) in
+          omega (arith, few (omega (arith, put.ensures.0, more.3)) part.ensures.few_rounds e lo en); all_answered = λ fr st. let size = ready.set ∙ sym (accesses_total fr s.n a.t.now st.stands) in
           ran_closure a.m.now a.end own.result own.ensures fr s a.b a.k (few_accesses ready) size (sized_set z) low a.w.now
-          part.new.0 part.result (omega (arith, more.0, part.auto.0)) (part.ensures.1 fr st) put.result
-          put.new.0 seven c.if-c-lt8.true (put.ensures.1 fr st) }
+          part.new.w part.result (omega (arith, more.0, part.auto.w)) (part.ensures.all_answered fr st) put.result
+          put.new.w seven c.if-c-lt8.true (put.ensures.1 fr st) }
 
 pub part_start-mid-requires-2 : goal.part_start-mid-requires-2
 part_start-mid-requires-2 t c =
@@ -326,7 +326,7 @@ run-d-requires-2 t c =
     let f = body_room z own.result own.ensures eight mid.result mid.ensures in
     let e = sized_body z own.result own.ensures eight mid.result mid.ensures inner.result.count inner.ensures.one_more in
     let low = below_inner a.k a.b inner.result inner.ensures c.requires.in_bounds.1 in
-    (omega (arith, c.requires.sized, f.0), ((e, low), ((omega (arith, more.0, c.run-a-2.auto.0), more.1, more.2, more.3), ready)))
+    (omega (arith, c.requires.sized, f.0), ((e, low), ((omega (arith, more.0, c.run-a-2.auto.w), more.1, more.2, more.3), ready)))
 
 pub overflow_add-k-3 : goal.overflow_add-k-3
 overflow_add-k-3 t c = omega (arith, sized_set c.requires.in_bounds.0)
@@ -341,7 +341,7 @@ copy_set-requires t c =
     let ready = c.requires.ready.1 in
     let eight : 8 ≤ own.result.kind = omega (arith, c.if-c-lt8.false) in
     let e = sized_body z own.result own.ensures eight mid.result mid.ensures inner.result.count inner.ensures.one_more in
-    ((sized_set z, few_accesses ready, omega (arith, more.0, c.run-a-2.auto.0, c.run-d-2.auto.0)), omega (arith, sized_set e))
+    ((sized_set z, few_accesses ready, omega (arith, more.0, c.run-a-2.auto.w, c.run-d-2.auto.w)), omega (arith, sized_set e))
 
 pub overflow_add-result-2 : goal.overflow_add-result-2
 overflow_add-result-2 t c =
@@ -354,7 +354,7 @@ overflow_add-result-2 t c =
     let eight : 8 ≤ own.result.kind = omega (arith, c.if-c-lt8.false) in
     let f = sized_one z own.result own.ensures (omega arith) in
     let e = sized_body z own.result own.ensures eight mid.result mid.ensures inner.result.count inner.ensures.one_more in
-    omega (arith, few_rounds f one.result one.ensures.0, few_rounds e two.result two.ensures.0)
+    omega (arith, few_rounds f one.result one.ensures.few_rounds, few_rounds e two.result two.ensures.few_rounds)
 
 pub returns : goal.returns
 returns t c =
@@ -371,7 +371,7 @@ returns t c =
     let more = c.requires.ready.0 in 
     let ready = c.requires.ready.1 in 
     let eight : 8 ≤ own.result.kind = omega (arith, c.if-c-lt8.false) in record { few_rounds = λ e lo en. let few = few_template a.m.now a.end own.result own.ensures mid.result one.result two.result eight mid.ensures in
-          omega (arith, few one.ensures.0 two.ensures.0 e lo en); all_answered = λ fr st. let size = ready.set ∙ sym (accesses_total fr s.n a.t.now st.stands) in
+          omega (arith, few one.ensures.few_rounds two.ensures.few_rounds e lo en); all_answered = λ fr st. let size = ready.set ∙ sym (accesses_total fr s.n a.t.now st.stands) in
           ran_template a.m.now a.end own.result own.ensures fr s a.b a.k (few_accesses ready) size (sized_set z) low inner.result
-          mid.result a.w.now one.new.0 two.new.0 put.new.0 one.result two.result eight mid.ensures
-          inner.ensures (omega (arith, more.0, one.auto.0, two.auto.0)) (one.ensures.1 fr st) (two.ensures.1 fr st) put.ensures }
+          mid.result a.w.now one.new.w two.new.w put.new.w one.result two.result eight mid.ensures
+          inner.ensures (omega (arith, more.0, one.auto.w, two.auto.w)) (one.ensures.all_answered fr st) (two.ensures.all_answered fr st) put.ensures }

@@ -18,6 +18,6 @@ returns c =
     let a = c.args in
     let m : a.k * 4096 + a.s.size - a.k * 4096 ≡ a.s.size = omega arith in (
       closure.ensures.0,
-      λ fr st. closed_at fr a.set a.s.limit a.k (a.k * 4096 + a.s.size - a.k * 4096) a.w.now closure.new.0 _
+      λ fr st. closed_at fr a.set a.s.limit a.k (a.k * 4096 + a.s.size - a.k * 4096) a.w.now closure.new.w _
           (m ∙ c.requires.ready.set ∙ sym (accesses_total fr a.s.n a.t.now st.stands)) (closure.ensures.1 fr st),
     )

@@ -19,5 +19,5 @@ returns c =
     let a = c.args in
     let ready = c.requires.ready in
     λ P cp. whole P a.n a.w.now a.t.now a.m.now a.used a.here a.grants (rules_in a.rules.now) a.many a.limit cp run.result
-    run.new.0 run.auto.0 c.requires.in_bounds.0 (omega (arith, accesses_total P.frame a.n a.t.now cp.frame.stands, ready.sized.few))
-    (run.ensures.1 P.frame cp.frame (table_in a.here a.grants a.w.now) (unbound refl) P.tree 0 cp.nodes)
+    run.new.w run.auto.w c.requires.in_bounds.0 (omega (arith, accesses_total P.frame a.n a.t.now cp.frame.stands, ready.sized.few))
+    (run.ensures.all_answered P.frame cp.frame (table_in a.here a.grants a.w.now) (unbound refl) P.tree 0 cp.nodes)

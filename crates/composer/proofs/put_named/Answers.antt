@@ -14,10 +14,10 @@ copy_set-requires c =
 pub returns-else-number-bound : goal.returns-else-number-bound
 returns-else-number-bound c =
     let a = c.args in
-    λ T f. named_table a.s a.b a.k a.number a.w.now c.put_table.new.0 T f (omega (arith, c.if-number-bound.false)) c.put_table.ensures
+    λ T f. named_table a.s a.b a.k a.number a.w.now c.put_table.new.w T f (omega (arith, c.if-number-bound.false)) c.put_table.ensures
 
 pub returns-then-number-bound : goal.returns-then-number-bound
 returns-then-number-bound c =
     let a = c.args in
-    λ T f. named_bound a.s a.b a.k a.number a.w.now c.copy_set.new.0 T f c.wide-i.result c.wide-j.result c.if-number-bound.true
+    λ T f. named_bound a.s a.b a.k a.number a.w.now c.copy_set.new.w T f c.wide-i.result c.wide-j.result c.if-number-bound.true
     c.wide-i.ensures.0 c.wide-j.ensures.0 c.copy_set.ensures

@@ -16,7 +16,7 @@ ask_state-asked-requires c = (c.read_within-file.ensures.read_as.yes c.if-file-n
 pub run_policy-rounds-requires : goal.run_policy-rounds-requires
 run_policy-rounds-requires c =
     (
-      subst (λ n. 65536 ≤ n) (sym c.read_within-file.auto.1.0) c.requires,
+      subst (λ n. 65536 ≤ n) (sym c.read_within-file.auto.w) c.requires,
       record { file = c.args.f.now; good = c.read_within-file.ensures.read_as.yes c.if-file-ne0.false },
     )
 
@@ -24,20 +24,20 @@ pub bounds-w-at : goal.bounds-w-at
 bounds-w-at c =
     let read-within = c.read_within-file in
     let args = c.args in
-    known_fits args.f.now args.s.now args.o.now args.a.now args.w.now c.requires read-within.new.1.0 read-within.result
-    (read-within.ensures.0.yes c.if-file-ne0.false) _ c.ask_state-asked.ensures _ c.asked-in-Access-1.given.1 c.run_policy-rounds.new.0
-    (subst (λ n. 65536 ≤ n) (sym (c.run_policy-rounds.auto.0 ∙ read-within.auto.1.0)) c.requires)
+    known_fits args.f.now args.s.now args.o.now args.a.now args.w.now c.requires read-within.new.w read-within.result
+    (read-within.ensures.read_as.yes c.if-file-ne0.false) _ c.ask_state-asked.ensures _ c.asked-in-Access-1.given.1 c.run_policy-rounds.new.w
+    (subst (λ n. 65536 ≤ n) (sym (c.run_policy-rounds.auto.w ∙ read-within.auto.w)) c.requires)
 
 pub returns-in-Unknown : goal.returns-in-Unknown
 returns-in-Unknown c =
     let read-within = c.read_within-file in 
-    let args = c.args in record { w_value = unknown_read args.f.now args.s.now args.o.now args.a.now args.w.now c.requires read-within.new.1.0 read-within.result
-          (read-within.ensures.0.yes c.if-file-ne0.false) _ c.ask_state-asked.ensures _ c.asked-1.given.1 _ c.not_decided-in-Unknown.ensures; w_unchanged = read-within.ensures.1 }
+    let args = c.args in record { w_value = unknown_read args.f.now args.s.now args.o.now args.a.now args.w.now c.requires read-within.new.w read-within.result
+          (read-within.ensures.read_as.yes c.if-file-ne0.false) _ c.ask_state-asked.ensures _ c.asked-1.given.1 _ c.not_decided-in-Unknown.ensures; w_unchanged = read-within.ensures.w_unchanged }
 
 pub returns-in-Access : goal.returns-in-Access
 returns-in-Access c =
     let if1 = c.if-file-ne0 in 
     let read-within = c.read_within-file in 
     let args = c.args in 
-    let ensures = c.run_policy-rounds.ensures args.f.now (read-within.ensures.0.yes if1.false) in record { w_value = known_read args.f.now args.s.now args.o.now args.a.now args.w.now c.requires read-within.new.1.0 read-within.result
-          (read-within.ensures.0.yes if1.false) _ c.ask_state-asked.ensures _ c.asked-in-Access-1.given.1 _ _ ensures; w_unchanged = cleared_after _ _ _ _ ensures ∙ read-within.ensures.1 }
+    let ensures = c.run_policy-rounds.ensures args.f.now (read-within.ensures.read_as.yes if1.false) in record { w_value = known_read args.f.now args.s.now args.o.now args.a.now args.w.now c.requires read-within.new.w read-within.result
+          (read-within.ensures.read_as.yes if1.false) _ c.ask_state-asked.ensures _ c.asked-in-Access-1.given.1 _ _ ensures; w_unchanged = cleared_after _ _ _ _ ensures ∙ read-within.ensures.w_unchanged }

@@ -55,7 +55,7 @@ pub expression-more-requires : goal.expression-more-requires
 expression-more-requires t c =
     (
       search rules,
-      ((c.requires.bound.0.0, e_in _ _ _ _ _ _ _ c.k-in-Good-1.given.1 c.factor-v.ensures, omega (arith, c.requires.bound.0.2, c.factor-v.auto.0)), c.requires.bound.1),
+      ((c.requires.bound.0.0, e_in _ _ _ _ _ _ _ c.k-in-Good-1.given.1 c.factor-v.ensures, omega (arith, c.requires.bound.0.2, c.factor-v.auto.m)), c.requires.bound.1),
     )
 
 pub expression-returns-in-Bad : goal.expression-returns-in-Bad
@@ -66,7 +66,7 @@ expression-returns-in-Good t c = e_join _ _ _ _ _ _ _ _ c.k-in-Good-1.given.1 c.
 
 pub factor-suffixes-requires : goal.factor-suffixes-requires
 factor-suffixes-requires t c =
-    (c.requires.bound.0.0, f_in _ _ _ _ _ _ _ c.k-in-Good-1.given.1 c.primary-v.ensures, omega (arith, c.requires.bound.0.2, c.primary-v.auto.0))
+    (c.requires.bound.0.0, f_in _ _ _ _ _ _ _ c.k-in-Good-1.given.1 c.primary-v.ensures, omega (arith, c.requires.bound.0.2, c.primary-v.auto.m))
 
 pub factor-returns-in-Bad : goal.factor-returns-in-Bad
 factor-returns-in-Bad t c = f_bad _ _ _ _ _ _ _ _ c.k-1.given.1 c.primary-v.ensures
@@ -92,7 +92,7 @@ filling-part-v-requires t c =
     )
 
 pub filling-put-q2-requires : goal.filling-put-q2-requires
-filling-put-q2-requires t c = omega (arith, c.requires.bound.0.2, c.part-v.auto.0)
+filling-put-q2-requires t c = omega (arith, c.requires.bound.0.2, c.part-v.auto.m)
 
 pub filling-overflow_add-result : goal.filling-overflow_add-result
 filling-overflow_add-result t c =
@@ -134,7 +134,7 @@ more-returns-in-Bad t c =
     c.k-1.given.1 c.factor-v.ensures
 
 pub more-put-q-requires : goal.more-put-q-requires
-more-put-q-requires t c = omega (arith, c.requires.bound.0.2, c.loop-counts.invariant.0, c.factor-v.auto.0)
+more-put-q-requires t c = omega (arith, c.requires.bound.0.2, c.loop-counts.invariant.0, c.factor-v.auto.m)
 
 pub more-loop-counts-smaller : goal.more-loop-counts-smaller
 more-loop-counts-smaller t c =
@@ -145,7 +145,7 @@ more-loop-counts-smaller t c =
 pub more-loop-counts-preserved : goal.more-loop-counts-preserved
 more-loop-counts-preserved t c =
     (
-      c.put-q.auto.0 ∙ c.factor-v.auto.0 ∙ c.loop-counts.invariant.0,
+      c.put-q.auto.m ∙ c.factor-v.auto.m ∙ c.loop-counts.invariant.0,
       m_next _ _ _ _ _ _ _ _ c.loop-counts.invariant.1 c.peek.ensures c.sign-kind.ensures c.if-kind-eq0.false _ _ c.k-in-Good-1.given.1
           c.factor-v.ensures c.put-q.ensures,
     )
@@ -163,7 +163,7 @@ overridden-part-v2-requires t c =
         (
           c.requires.bound.0.0,
           (let g = g_in _ _ _ _ _ _ _ c.k-in-Good-1.given.1 c.part-v.ensures (lit< tt) in omega arith),
-          omega (arith, c.requires.bound.0.2, c.part-v.auto.0),
+          omega (arith, c.requires.bound.0.2, c.part-v.auto.m),
         ),
         c.requires.bound.1,
       ),
@@ -182,14 +182,14 @@ overridden-part-v3-requires t c =
         (
           c.requires.bound.0.0,
           (let g = g_in _ _ _ _ _ _ _ c.k2-in-Good-k2-1.given.1 c.part-v2.ensures (lit< tt) in omega arith),
-          omega (arith, c.requires.bound.0.2, c.part-v.auto.0, c.part-v2.auto.0),
+          omega (arith, c.requires.bound.0.2, c.part-v.auto.m, c.part-v2.auto.m),
         ),
         c.requires.bound.1,
       ),
     )
 
 pub overridden-put-q4-requires : goal.overridden-put-q4-requires
-overridden-put-q4-requires t c = omega (arith, c.requires.bound.0.2, c.part-v.auto.0, c.part-v2.auto.0, c.part-v3.auto.0)
+overridden-put-q4-requires t c = omega (arith, c.requires.bound.0.2, c.part-v.auto.m, c.part-v2.auto.m, c.part-v3.auto.m)
 
 pub overridden-overflow_add-result : goal.overridden-overflow_add-result
 overridden-overflow_add-result t c =
@@ -373,7 +373,7 @@ template-filling-requires t c =
         (
           c.requires.bound.0.0,
           (let g = g_in _ _ _ _ _ _ _ c.k-in-Good-k-1.given.1 c.body-v.ensures (lit< tt) in omega arith),
-          omega (arith, c.requires.bound.0.2, c.body-v.auto.0),
+          omega (arith, c.requires.bound.0.2, c.body-v.auto.m),
         ),
         bound_fewer _ _ c.requires.bound.1 (omega arith),
       ),

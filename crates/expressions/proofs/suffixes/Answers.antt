@@ -30,7 +30,7 @@ loop-counts-smaller-then-is_settled c = omega (arith, xs_past _ _ _ _ _ _ c.loop
 pub loop-counts-preserved-then-is_settled : goal.loop-counts-preserved-then-is_settled
 loop-counts-preserved-then-is_settled c =
     (
-      c.put-q.auto.0 ∙ c.loop-counts.invariant.0,
+      c.put-q.auto.m ∙ c.loop-counts.invariant.0,
       xs_next _ _ _ _ _ _ c.loop-counts.invariant.1 c.x-1.given.1 c.suffix.ensures _
           (c.put-q.ensures ∙ settled_named _ _ _ _ _ _ (sym c.is_settled.ensures ∙ c.if-is_settled.true)),
     )
@@ -46,7 +46,7 @@ loop-counts-smaller c = omega (arith, xs_past _ _ _ _ _ _ c.loop-counts.invarian
 pub loop-counts-preserved : goal.loop-counts-preserved
 loop-counts-preserved c =
     (
-      c.put_name-q.auto.0 ∙ c.loop-counts.invariant.0,
+      c.put_name-q.auto.m ∙ c.loop-counts.invariant.0,
       xs_next _ _ _ _ _ _ c.loop-counts.invariant.1 c.x-1.given.1 c.suffix.ensures _ c.put_name-q.ensures,
     )
 

@@ -10,3 +10,7 @@ overflow_cast-result-2 c = omega (arith, xor_lt 32 c.args.b c.args.h (omega arit
 
 pub overflow_mul-result : goal.overflow_mul-result
 overflow_mul-result c = omega (arith, xor_lt 32 c.args.b c.args.h (omega arith) (omega arith))
+
+pub returns : goal.returns
+unfolding fnv_step_lem
+returns c = refl

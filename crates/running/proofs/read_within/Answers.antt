@@ -8,4 +8,4 @@ pub returns : goal.returns
 returns c =
     let read-policy = c.read_policy in 
     let args = c.args in record { read_as = subst (λ p. ReadAs args.f.now p read-policy.result)
-          (sym (lent_part args.w.now read-policy.new.1.0 c.requires read-policy.auto.1.0)) read-policy.ensures.0; w_unchanged = lent_cleared args.w.now read-policy.new.1.0 c.requires read-policy.auto.1.0 }
+          (sym (lent_part args.w.now read-policy.new.w c.requires read-policy.auto.w)) read-policy.ensures.read_as; w_unchanged = lent_cleared args.w.now read-policy.new.w c.requires read-policy.auto.w }

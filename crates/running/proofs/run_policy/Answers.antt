@@ -21,12 +21,12 @@ pub returns : goal.returns
 returns c =
     let a = c.args in
     λ f G. c.compose.ensures (policy_in G) (is_composed f a.w.now a.t2 G c.counts_of-n.result c.counts_of-n.ensures
-    c.wide-many.result c.wide-many.ensures.0 c.fill_rules.new.0 c.fill_rules.ensures c.fill_table.new.0 c.flags-here.result
+    c.wide-many.result c.wide-many.ensures.0 c.fill_rules.new.b c.fill_rules.ensures c.fill_table.new.t c.flags-here.result
     c.fill_table.ensures c.flags-here.ensures)
 
 pub compose-requires : goal.compose-requires
 compose-requires c =
     let a = c.args in 
     let f = c.requires.1.file in 
-    let G = c.requires.1.good in record { sized = is_sized f a.w.now a.t2 G c.counts_of-n.result c.counts_of-n.ensures; in_bounds = (c.requires.0, c.fill_rules.auto.0, G.few_grants, G.goal.limited); ready = is_ready f a.w.now a.t2 G c.counts_of-n.result c.counts_of-n.ensures c.wide-many.result c.wide-many.ensures.0 c.fill_rules.new.0
-            c.fill_rules.ensures _ c.fill_table.auto.0 }
+    let G = c.requires.1.good in record { sized = is_sized f a.w.now a.t2 G c.counts_of-n.result c.counts_of-n.ensures; in_bounds = (c.requires.0, c.fill_rules.auto.b, G.few_grants, G.goal.limited); ready = is_ready f a.w.now a.t2 G c.counts_of-n.result c.counts_of-n.ensures c.wide-many.result c.wide-many.ensures.0 c.fill_rules.new.b
+            c.fill_rules.ensures _ c.fill_table.auto.t }

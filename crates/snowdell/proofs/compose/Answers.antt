@@ -15,4 +15,4 @@ pub returns : goal.returns
 returns c =
     let compose-within = c.compose_within-r in
     compose_promises _ _ _ _ _ _
-    (ap (composed_of compose-within.result _) (c.clear.ensures ∙ compose-within.ensures.1) ∙ compose-within.ensures.0)
+    (ap (composed_of compose-within.result _) (c.clear.ensures ∙ compose-within.ensures.w_unchanged) ∙ compose-within.ensures.w_after)

@@ -12,4 +12,4 @@ pub returns : goal.returns
 returns c =
     let decide-within = c.decide_within-r in
     decide_promises _ _ _ _ _ _ _
-    (ap (decided_of decide-within.result) (c.clear.ensures ∙ decide-within.ensures.1) ∙ decide-within.ensures.0)
+    (ap (decided_of decide-within.result) (c.clear.ensures ∙ decide-within.ensures.w_unchanged) ∙ decide-within.ensures.w_value)

@@ -12,7 +12,7 @@ overflow_add-result c = omega (arith, c.if-used-lt193.true)
 pub returns-then-used-lt193 : goal.returns-then-used-lt193
 returns-then-used-lt193 c =
     let args = c.args in
-    put_stored args.m.now args.q args.cell c.operators_after-operators.ensures c.put_cell.new.0 c.if-used-lt193.true
+    put_stored args.m.now args.q args.cell c.operators_after-operators.ensures c.put_cell.new.m c.if-used-lt193.true
     c.put_cell.ensures
 
 pub returns : goal.returns

@@ -1,0 +1,8 @@
+use mathlib.Core.Path.{refl}
+use Rattle.state.specs.Standing.{grant_written}
+use borrow.Author.Rules.{rules}
+use Rattle.reading.proofs.put_grant.Goals as goal
+
+pub returns : goal.returns
+unfolding grant_written
+returns c = refl
