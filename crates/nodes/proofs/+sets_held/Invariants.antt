@@ -6,5 +6,5 @@ use Rattle.nodes.proofs.Held.{one_tree, held_one, filling_tree, body_tree, held_
 use Prim.Native.Nat.{ℕ, ◌<◌, max}
 use Rattle.nodes.proofs.+sets_held.Given as goal
 
--- MEASURE abbrev μ-sets-held : Measures 1 sets-held-kinds.ps ℕ
-μ-sets-held κs a = a.1.0
+abbrev pub decreases-sets_held : goal.decreases-sets_held
+decreases-sets_held l = l.end

@@ -21,7 +21,7 @@ loop-k-preserved c =
     let args = c.args in (
       c.put_rule.auto.b ∙ loop.invariant.0,
       omega (arith, c.loop-k-test.true),
-      one_packed args.t2 loop.b c.put_rule.new.b loop.k loop.invariant.2 c.put_rule.ensures.0 c.put_rule.ensures.1,
+      one_packed args.rules loop.b c.put_rule.new.b loop.k loop.invariant.2 c.put_rule.ensures.0 c.put_rule.ensures.1,
     )
 
 pub returns : goal.returns

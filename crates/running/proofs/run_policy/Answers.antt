@@ -10,7 +10,7 @@ fill_table-requires c =
     let a = c.args in
     let G = c.requires.1.good in (
       (refl, G.stands.sizes.tags, G.stands.sizes.marks),
-      can_fill c.requires.1.file a.w.now a.t2 G c.counts_of-n.result c.counts_of-n.ensures,
+      can_fill c.requires.1.file a.w.now a.r G c.counts_of-n.result c.counts_of-n.ensures,
     )
 
 pub fill_rules-requires : goal.fill_rules-requires
@@ -20,7 +20,7 @@ fill_rules-requires c = (refl, omega (arith, c.wide-many.ensures.0, c.requires.1
 pub returns : goal.returns
 returns c =
     let a = c.args in
-    λ f G. c.compose.ensures (policy_in G) (is_composed f a.w.now a.t2 G c.counts_of-n.result c.counts_of-n.ensures
+    λ f G. c.compose.ensures (policy_in G) (is_composed f a.w.now a.r G c.counts_of-n.result c.counts_of-n.ensures
     c.wide-many.result c.wide-many.ensures.0 c.fill_rules.new.b c.fill_rules.ensures c.fill_table.new.t c.flags-here.result
     c.fill_table.ensures c.flags-here.ensures)
 
@@ -28,5 +28,5 @@ pub compose-requires : goal.compose-requires
 compose-requires c =
     let a = c.args in 
     let f = c.requires.1.file in 
-    let G = c.requires.1.good in record { sized = is_sized f a.w.now a.t2 G c.counts_of-n.result c.counts_of-n.ensures; in_bounds = (c.requires.0, c.fill_rules.auto.b, G.few_grants, G.goal.limited); ready = is_ready f a.w.now a.t2 G c.counts_of-n.result c.counts_of-n.ensures c.wide-many.result c.wide-many.ensures.0 c.fill_rules.new.b
+    let G = c.requires.1.good in record { sized = is_sized f a.w.now a.r G c.counts_of-n.result c.counts_of-n.ensures; in_bounds = (c.requires.0, c.fill_rules.auto.b, G.few_grants, G.goal.limited); ready = is_ready f a.w.now a.r G c.counts_of-n.result c.counts_of-n.ensures c.wide-many.result c.wide-many.ensures.0 c.fill_rules.new.b
             c.fill_rules.ensures _ c.fill_table.auto.t }

@@ -9,6 +9,7 @@ use Rattle.algebra.proofs.Bytes.{tally_few}
 use Rattle.sets.proofs.Bytes.{tally_hit, tally_miss}
 use native.Mathlib.Omega.{arith}
 use Rattle.sets.proofs.count.Goals as goal
+use Rattle.sets.proofs.count.Goals.{then-s-x, else-s-x}
 
 pub loop-x-init : goal.loop-x-init
 unfolding tally
@@ -24,8 +25,10 @@ loop-x-preserved c =
     let a = c.args in
     let l = c.loop-x in (
       omega arith,
-      ⊎_elim (λ q. q.1 ∙ ap (λ m. m + 1) l.invariant.1 ∙ sym (tally_hit a.b l.x a.s.now (omega arith) q.0.taken))
-          (λ q. q.1 ∙ l.invariant.1 ∙ sym (tally_miss a.b l.x a.s.now (omega arith) q.0.left)) c.if-s-x.branch,
+      elim c.if-s-x.branch [
+        then-s-x w ↦ w.found-is ∙ ap (λ m. m + 1) l.invariant.1 ∙ sym (tally_hit a.b l.x a.s.now (omega arith) w.if-s-x.true)
+        | else-s-x w ↦ w.found-is ∙ l.invariant.1 ∙ sym (tally_miss a.b l.x a.s.now (omega arith) w.if-s-x.false)
+      ],
     )
 
 pub returns : goal.returns
