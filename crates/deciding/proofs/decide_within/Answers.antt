@@ -25,14 +25,14 @@ bounds-w-at c =
     let read-within = c.read_within-file in
     let args = c.args in
     known_fits args.f.now args.s.now args.o.now args.a.now args.w.now c.requires read-within.new.w read-within.result
-    (read-within.ensures.read_as.yes c.if-file-ne0.false) _ c.ask_state-asked.ensures _ c.asked-in-Access-1.given.1 c.run_policy-rounds.new.w
+    (read-within.ensures.read_as.yes c.if-file-ne0.false) _ c.ask_state-asked.ensures _ c.in-Access.is c.run_policy-rounds.new.w
     (subst (λ n. 65536 ≤ n) (sym (c.run_policy-rounds.auto.w ∙ read-within.auto.w)) c.requires)
 
 pub returns-in-Unknown : goal.returns-in-Unknown
 returns-in-Unknown c =
     let read-within = c.read_within-file in 
     let args = c.args in record { w_value = unknown_read args.f.now args.s.now args.o.now args.a.now args.w.now c.requires read-within.new.w read-within.result
-          (read-within.ensures.read_as.yes c.if-file-ne0.false) _ c.ask_state-asked.ensures _ c.asked-1.given.1 _ c.not_decided-in-Unknown.ensures; w_unchanged = read-within.ensures.w_unchanged }
+          (read-within.ensures.read_as.yes c.if-file-ne0.false) _ c.ask_state-asked.ensures _ c.in-Unknown.is _ c.not_decided-in-Unknown.ensures; w_unchanged = read-within.ensures.w_unchanged }
 
 pub returns-in-Access : goal.returns-in-Access
 returns-in-Access c =
@@ -40,4 +40,4 @@ returns-in-Access c =
     let read-within = c.read_within-file in 
     let args = c.args in 
     let ensures = c.run_policy-rounds.ensures args.f.now (read-within.ensures.read_as.yes if1.false) in record { w_value = known_read args.f.now args.s.now args.o.now args.a.now args.w.now c.requires read-within.new.w read-within.result
-          (read-within.ensures.read_as.yes if1.false) _ c.ask_state-asked.ensures _ c.asked-in-Access-1.given.1 _ _ ensures; w_unchanged = cleared_after _ _ _ _ ensures ∙ read-within.ensures.w_unchanged }
+          (read-within.ensures.read_as.yes if1.false) _ c.ask_state-asked.ensures _ c.in-Access.is _ _ ensures; w_unchanged = cleared_after _ _ _ _ ensures ∙ read-within.ensures.w_unchanged }

@@ -55,24 +55,24 @@ pub expression-more-requires : goal.expression-more-requires
 expression-more-requires t c =
     (
       search rules,
-      ((c.requires.bound.0.0, e_in _ _ _ _ _ _ _ c.k-in-Good-1.given.1 c.factor-v.ensures, omega (arith, c.requires.bound.0.2, c.factor-v.auto.m)), c.requires.bound.1),
+      ((c.requires.bound.0.0, e_in _ _ _ _ _ _ _ c.in-Good.is c.factor-v.ensures, omega (arith, c.requires.bound.0.2, c.factor-v.auto.m)), c.requires.bound.1),
     )
 
 pub expression-returns-in-Bad : goal.expression-returns-in-Bad
-expression-returns-in-Bad t c = e_bad _ _ _ _ _ _ _ _ c.k-1.given.1 c.factor-v.ensures
+expression-returns-in-Bad t c = e_bad _ _ _ _ _ _ _ _ c.in-Bad.is c.factor-v.ensures
 
 pub expression-returns-in-Good : goal.expression-returns-in-Good
-expression-returns-in-Good t c = e_join _ _ _ _ _ _ _ _ c.k-in-Good-1.given.1 c.factor-v.ensures _ c.more.ensures
+expression-returns-in-Good t c = e_join _ _ _ _ _ _ _ _ c.in-Good.is c.factor-v.ensures _ c.more.ensures
 
 pub factor-suffixes-requires : goal.factor-suffixes-requires
 factor-suffixes-requires t c =
-    (c.requires.bound.0.0, f_in _ _ _ _ _ _ _ c.k-in-Good-1.given.1 c.primary-v.ensures, omega (arith, c.requires.bound.0.2, c.primary-v.auto.m))
+    (c.requires.bound.0.0, f_in _ _ _ _ _ _ _ c.in-Good.is c.primary-v.ensures, omega (arith, c.requires.bound.0.2, c.primary-v.auto.m))
 
 pub factor-returns-in-Bad : goal.factor-returns-in-Bad
-factor-returns-in-Bad t c = f_bad _ _ _ _ _ _ _ _ c.k-1.given.1 c.primary-v.ensures
+factor-returns-in-Bad t c = f_bad _ _ _ _ _ _ _ _ c.in-Bad.is c.primary-v.ensures
 
 pub factor-returns-in-Good : goal.factor-returns-in-Good
-factor-returns-in-Good t c = f_join _ _ _ _ _ _ _ _ c.k-in-Good-1.given.1 c.primary-v.ensures _ c.suffixes.ensures
+factor-returns-in-Good t c = f_join _ _ _ _ _ _ _ _ c.in-Good.is c.primary-v.ensures _ c.suffixes.ensures
 
 pub filling-returns-then-peek-ne40 : goal.filling-returns-then-peek-ne40
 filling-returns-then-peek-ne40 t c = k_none _ _ _ _ _ _ _ c.requires.bound.0.1 (byte_isnt c.peek.ensures c.if-peek-ne40.true)
@@ -96,15 +96,15 @@ filling-put-q2-requires t c = omega (arith, c.requires.bound.0.2, c.part-v.auto.
 
 pub filling-overflow_add-result : goal.filling-overflow_add-result
 filling-overflow_add-result t c =
-    let g = g_in _ _ _ _ _ _ _ c.k-in-Good-1.given.1 c.part-v.ensures (lit< tt) in
+    let g = g_in _ _ _ _ _ _ _ c.in-Good.is c.part-v.ensures (lit< tt) in
     omega (arith, c.well_formed.1.0)
 
 pub filling-returns-in-Bad : goal.filling-returns-in-Bad
-filling-returns-in-Bad t c = k_bad _ _ _ _ _ _ _ (byte_is c.peek.ensures c.if-peek-ne40.false) _ c.k-1.given.1 c.part-v.ensures
+filling-returns-in-Bad t c = k_bad _ _ _ _ _ _ _ (byte_is c.peek.ensures c.if-peek-ne40.false) _ c.in-Bad.is c.part-v.ensures
 
 pub filling-returns-in-Good : goal.filling-returns-in-Good
 filling-returns-in-Good t c =
-    k_good _ _ _ _ _ _ _ (byte_is c.peek.ensures c.if-peek-ne40.false) _ c.k-in-Good-1.given.1 c.part-v.ensures
+    k_good _ _ _ _ _ _ _ (byte_is c.peek.ensures c.if-peek-ne40.false) _ c.in-Good.is c.part-v.ensures
     c.put-q2.ensures
 
 pub more-loop-counts-init : goal.more-loop-counts-init
@@ -131,7 +131,7 @@ more-factor-v-requires t c =
 pub more-returns-in-Bad : goal.more-returns-in-Bad
 more-returns-in-Bad t c =
     m_bad _ _ _ _ _ _ _ _ c.loop-counts.invariant.1 c.peek.ensures c.sign-kind.ensures c.if-kind-eq0.false _ _
-    c.k-1.given.1 c.factor-v.ensures
+    c.in-Bad.is c.factor-v.ensures
 
 pub more-put-q-requires : goal.more-put-q-requires
 more-put-q-requires t c = omega (arith, c.requires.bound.0.2, c.loop-counts.invariant.0, c.factor-v.auto.m)
@@ -139,20 +139,20 @@ more-put-q-requires t c = omega (arith, c.requires.bound.0.2, c.loop-counts.inva
 pub more-loop-counts-smaller : goal.more-loop-counts-smaller
 more-loop-counts-smaller t c =
     let g = m_past _ _ _ _ _ _ _ _ c.loop-counts.invariant.1 c.peek.ensures c.sign-kind.ensures c.if-kind-eq0.false _
-    c.k-in-Good-1.given.1 c.factor-v.ensures in
+    c.in-Good.is c.factor-v.ensures in
     omega arith
 
 pub more-loop-counts-preserved : goal.more-loop-counts-preserved
 more-loop-counts-preserved t c =
     (
       c.put-q.auto.m ∙ c.factor-v.auto.m ∙ c.loop-counts.invariant.0,
-      m_next _ _ _ _ _ _ _ _ c.loop-counts.invariant.1 c.peek.ensures c.sign-kind.ensures c.if-kind-eq0.false _ _ c.k-in-Good-1.given.1
+      m_next _ _ _ _ _ _ _ _ c.loop-counts.invariant.1 c.peek.ensures c.sign-kind.ensures c.if-kind-eq0.false _ _ c.in-Good.is
           c.factor-v.ensures c.put-q.ensures,
     )
 
 pub overridden-overflow_add-i : goal.overridden-overflow_add-i
 overridden-overflow_add-i t c =
-    let g = g_in _ _ _ _ _ _ _ c.k-in-Good-1.given.1 c.part-v.ensures (lit< tt) in
+    let g = g_in _ _ _ _ _ _ _ c.in-Good.is c.part-v.ensures (lit< tt) in
     omega arith
 
 pub overridden-part-v2-requires : goal.overridden-part-v2-requires
@@ -162,7 +162,7 @@ overridden-part-v2-requires t c =
       (
         (
           c.requires.bound.0.0,
-          (let g = g_in _ _ _ _ _ _ _ c.k-in-Good-1.given.1 c.part-v.ensures (lit< tt) in omega arith),
+          (let g = g_in _ _ _ _ _ _ _ c.in-Good.is c.part-v.ensures (lit< tt) in omega arith),
           omega (arith, c.requires.bound.0.2, c.part-v.auto.m),
         ),
         c.requires.bound.1,
@@ -171,7 +171,7 @@ overridden-part-v2-requires t c =
 
 pub overridden-overflow_add-j : goal.overridden-overflow_add-j
 overridden-overflow_add-j t c =
-    let g = g_in _ _ _ _ _ _ _ c.k2-in-Good-k2-1.given.1 c.part-v2.ensures (lit< tt) in
+    let g = g_in _ _ _ _ _ _ _ c.in-Good-k2.is c.part-v2.ensures (lit< tt) in
     omega (arith, c.good.1.0)
 
 pub overridden-part-v3-requires : goal.overridden-part-v3-requires
@@ -181,7 +181,7 @@ overridden-part-v3-requires t c =
       (
         (
           c.requires.bound.0.0,
-          (let g = g_in _ _ _ _ _ _ _ c.k2-in-Good-k2-1.given.1 c.part-v2.ensures (lit< tt) in omega arith),
+          (let g = g_in _ _ _ _ _ _ _ c.in-Good-k2.is c.part-v2.ensures (lit< tt) in omega arith),
           omega (arith, c.requires.bound.0.2, c.part-v.auto.m, c.part-v2.auto.m),
         ),
         c.requires.bound.1,
@@ -193,34 +193,33 @@ overridden-put-q4-requires t c = omega (arith, c.requires.bound.0.2, c.part-v.au
 
 pub overridden-overflow_add-result : goal.overridden-overflow_add-result
 overridden-overflow_add-result t c =
-    let g = g_in _ _ _ _ _ _ _ c.k3-in-Good-k3-1.given.1 c.part-v3.ensures (lit< tt) in
+    let g = g_in _ _ _ _ _ _ _ c.in-Good-k3.is c.part-v3.ensures (lit< tt) in
     omega (arith, c.good.1.0)
 
 pub overridden-returns-in-Bad : goal.overridden-returns-in-Bad
-overridden-returns-in-Bad t c = h_first _ _ _ _ _ _ _ _ c.k-1.given.1 c.part-v.ensures
+overridden-returns-in-Bad t c = h_first _ _ _ _ _ _ _ _ c.in-Bad.is c.part-v.ensures
 
 pub overridden-returns-in-Bad-k2 : goal.overridden-returns-in-Bad-k2
-overridden-returns-in-Bad-k2 t c = h_second _ _ _ _ _ _ _ _ c.k-in-Good-1.given.1 c.part-v.ensures _ c.k2-1.given.1 c.part-v2.ensures
+overridden-returns-in-Bad-k2 t c = h_second _ _ _ _ _ _ _ _ c.in-Good.is c.part-v.ensures _ c.in-Bad-k2.is c.part-v2.ensures
 
 pub overridden-returns-in-Bad-k3 : goal.overridden-returns-in-Bad-k3
 overridden-returns-in-Bad-k3 t c =
-    h_third _ _ _ _ _ _ _ _ c.k-in-Good-1.given.1 c.part-v.ensures _ c.k2-in-Good-k2-1.given.1 c.part-v2.ensures _ c.k3-1.given.1
+    h_third _ _ _ _ _ _ _ _ c.in-Good.is c.part-v.ensures _ c.in-Good-k2.is c.part-v2.ensures _ c.in-Bad-k3.is
     c.part-v3.ensures
 
 pub overridden-returns-in-Good-k3 : goal.overridden-returns-in-Good-k3
 overridden-returns-in-Good-k3 t c =
-    h_good _ _ _ _ _ _ _ _ c.k-in-Good-1.given.1 c.part-v.ensures _ c.k2-in-Good-k2-1.given.1 c.part-v2.ensures _ c.k3-in-Good-k3-1.given.1 c.part-v3.ensures
+    h_good _ _ _ _ _ _ _ _ c.in-Good.is c.part-v.ensures _ c.in-Good-k2.is c.part-v2.ensures _ c.in-Good-k3.is c.part-v3.ensures
     c.put-q4.ensures
 
 pub part-returns-then-peek-end : goal.part-returns-then-peek-end
-part-returns-then-peek-end t c =
-    g_open _ _ _ _ _ _ _ _ c.k-in-Good-1.given.1 c.expression-v.ensures (byte_isnt c.peek.ensures c.if-peek-end.true)
+part-returns-then-peek-end t c = g_open _ _ _ _ _ _ _ _ c.in-Good.is c.expression-v.ensures (byte_isnt c.peek.ensures c.if-peek-end.true)
 
 pub part-returns-in-Bad : goal.part-returns-in-Bad
-part-returns-in-Bad t c = g_bad _ _ _ _ _ _ _ _ _ c.k-1.given.1 c.expression-v.ensures
+part-returns-in-Bad t c = g_bad _ _ _ _ _ _ _ _ _ c.in-Bad.is c.expression-v.ensures
 
 pub part-returns-else-peek-end : goal.part-returns-else-peek-end
-part-returns-else-peek-end t c = g_good _ _ _ _ _ _ _ c.k-in-Good-1.given.1 c.expression-v.ensures (byte_is c.peek.ensures c.if-peek-end.false)
+part-returns-else-peek-end t c = g_good _ _ _ _ _ _ _ c.in-Good.is c.expression-v.ensures (byte_is c.peek.ensures c.if-peek-end.false)
 
 pub primary-returns-then-allow-eq0 : goal.primary-returns-then-allow-eq0
 primary-returns-then-allow-eq0 t c = p_full _ _ _ _ _ _ _ (byte_is c.peek.ensures c.if-peek-eq40.true) c.if-allow-eq0.true
@@ -267,53 +266,53 @@ primary-part-v-requires t c =
 pub primary-returns-in-Bad : goal.primary-returns-in-Bad
 primary-returns-in-Bad t c =
     p_bad _ _ _ _ _ _ _ (byte_is c.peek.ensures c.if-peek-eq40.true) c.if-allow-eq0.false
-    (tested c.is_binding.ensures c.if-is_binding.false) _ c.k-1.given.1 c.part-v.ensures
+    (tested c.is_binding.ensures c.if-is_binding.false) _ c.in-Bad.is c.part-v.ensures
 
 pub primary-overflow_add-result : goal.primary-overflow_add-result
 primary-overflow_add-result t c =
-    let g = g_in _ _ _ _ _ _ _ c.k-in-Good-1.given.1 c.part-v.ensures (lit< tt) in
+    let g = g_in _ _ _ _ _ _ _ c.in-Good.is c.part-v.ensures (lit< tt) in
     omega (arith, c.well_formed.1.0)
 
 pub primary-returns-in-Good : goal.primary-returns-in-Good
 primary-returns-in-Good t c =
-    p_good _ _ _ _ _ _ _ (byte_is c.peek.ensures c.if-peek-eq40.true) c.if-allow-eq0.false c.k-in-Good-1.given.1 c.part-v.ensures
+    p_good _ _ _ _ _ _ _ (byte_is c.peek.ensures c.if-peek-eq40.true) c.if-allow-eq0.false c.in-Good.is c.part-v.ensures
 
 pub primary-word_letter-letter-requires : goal.primary-word_letter-letter-requires
-primary-word_letter-letter-requires t c = n_bounds _ _ c.e-in-Good-word-1.given.1 c.word.ensures
+primary-word_letter-letter-requires t c = n_bounds _ _ c.in-Good-word.is c.word.ensures
 
 pub primary-put_table-q-requires : goal.primary-put_table-q-requires
 primary-put_table-q-requires t c =
     record { sound = (
         c.requires.bound.0.0,
-        (let g = n_bounds _ _ c.e-in-Good-word-1.given.1 c.word.ensures in omega arith),
-        (n_bounds _ _ c.e-in-Good-word-1.given.1 c.word.ensures).1,
+        (let g = n_bounds _ _ c.in-Good-word.is c.word.ensures in omega arith),
+        (n_bounds _ _ c.in-Good-word.is c.word.ensures).1,
         c.requires.bound.0.2,
       ); bound = bound_fewer _ 0 c.requires.bound.1 (omega arith) }
 
 pub primary-returns-then-letter-eq3 : goal.primary-returns-then-letter-eq3
 primary-returns-then-letter-eq3 t c =
-    p_table _ _ _ _ _ _ _ c.requires.bound.0.1 (byte_isnt c.peek.ensures c.if-peek-eq40.false) c.e-in-Good-word-1.given.1 c.word.ensures
+    p_table _ _ _ _ _ _ _ c.requires.bound.0.1 (byte_isnt c.peek.ensures c.if-peek-eq40.false) c.in-Good-word.is c.word.ensures
     c.word_letter-letter.ensures c.if-letter-eq3.true c.put_table-q.ensures
 
 pub primary-returns-then-letter-ne1 : goal.primary-returns-then-letter-ne1
 primary-returns-then-letter-ne1 t c =
-    p_word _ _ _ _ _ _ _ c.requires.bound.0.1 (byte_isnt c.peek.ensures c.if-peek-eq40.false) c.e-in-Good-word-1.given.1 c.word.ensures
+    p_word _ _ _ _ _ _ _ c.requires.bound.0.1 (byte_isnt c.peek.ensures c.if-peek-eq40.false) c.in-Good-word.is c.word.ensures
     c.word_letter-letter.ensures c.if-letter-eq3.false c.if-letter-ne1.true
 
 pub primary-returns-then-peek-ne40 : goal.primary-returns-then-peek-ne40
 primary-returns-then-peek-ne40 t c =
-    p_lone _ _ _ _ _ _ _ c.requires.bound.0.1 (byte_isnt c.peek.ensures c.if-peek-eq40.false) c.e-in-Good-word-1.given.1
+    p_lone _ _ _ _ _ _ _ c.requires.bound.0.1 (byte_isnt c.peek.ensures c.if-peek-eq40.false) c.in-Good-word.is
     c.word.ensures c.word_letter-letter.ensures c.if-letter-ne1.false (byte_isnt c.peek-in-Good-word.ensures c.if-peek-ne40.true)
 
 pub primary-returns-then-allow-eq0-2 : goal.primary-returns-then-allow-eq0-2
 primary-returns-then-allow-eq0-2 t c =
-    p_full_2 _ _ _ _ _ _ _ c.requires.bound.0.1 (byte_isnt c.peek.ensures c.if-peek-eq40.false) c.e-in-Good-word-1.given.1
+    p_full_2 _ _ _ _ _ _ _ c.requires.bound.0.1 (byte_isnt c.peek.ensures c.if-peek-eq40.false) c.in-Good-word.is
     c.word.ensures c.word_letter-letter.ensures c.if-letter-ne1.false
     (byte_is c.peek-in-Good-word.ensures c.if-peek-ne40.false) c.if-allow-eq0-2.true
 
 pub primary-overflow_add-e : goal.primary-overflow_add-e
 primary-overflow_add-e t c =
-    let g = n_bounds _ _ c.e-in-Good-word-1.given.1
+    let g = n_bounds _ _ c.in-Good-word.is
     c.word.ensures in
     omega arith
 
@@ -324,7 +323,7 @@ primary-overridden-requires t c =
       (
         (
           c.requires.bound.0.0,
-          omega (arith, is_in_lem 40 c.args.t.now c.e-in-Good-word-1.given.0.0 (byte_is c.peek-in-Good-word.ensures c.if-peek-ne40.false) (lit< tt)),
+          omega (arith, is_in_lem 40 c.args.t.now c.in-Good-word.e (byte_is c.peek-in-Good-word.ensures c.if-peek-ne40.false) (lit< tt)),
           c.requires.bound.0.2,
         ),
         bound_fewer _ _ c.requires.bound.1 (omega arith),
@@ -333,17 +332,17 @@ primary-overridden-requires t c =
 
 pub primary-returns-in-Bad-word : goal.primary-returns-in-Bad-word
 primary-returns-in-Bad-word t c =
-    p_none _ _ _ _ _ _ _ c.requires.bound.0.1 (byte_isnt c.peek.ensures c.if-peek-eq40.false) c.e-1.given.1
+    p_none _ _ _ _ _ _ _ c.requires.bound.0.1 (byte_isnt c.peek.ensures c.if-peek-eq40.false) c.in-Bad-word.is
     c.word.ensures
 
 pub primary-returns-else-allow-eq0-2 : goal.primary-returns-else-allow-eq0-2
 primary-returns-else-allow-eq0-2 t c =
-    p_override _ _ _ _ _ _ _ c.requires.bound.0.1 (byte_isnt c.peek.ensures c.if-peek-eq40.false) c.e-in-Good-word-1.given.1
+    p_override _ _ _ _ _ _ _ c.requires.bound.0.1 (byte_isnt c.peek.ensures c.if-peek-eq40.false) c.in-Good-word.is
     c.word.ensures c.word_letter-letter.ensures c.if-letter-ne1.false
     (byte_is c.peek-in-Good-word.ensures c.if-peek-ne40.false) c.if-allow-eq0-2.false _ c.overridden.ensures
 
 pub template-returns-then-peek-ne46 : goal.template-returns-then-peek-ne46
-template-returns-then-peek-ne46 t c = t_open _ _ _ _ _ _ _ c.to-1.given.1 c.read_name.ensures (byte_isnt c.peek.ensures c.if-peek-ne46.true)
+template-returns-then-peek-ne46 t c = t_open _ _ _ _ _ _ _ c.in-Good.is c.read_name.ensures (byte_isnt c.peek.ensures c.if-peek-ne46.true)
 
 pub template-body-v-requires : goal.template-body-v-requires
 template-body-v-requires t c =
@@ -352,8 +351,8 @@ template-body-v-requires t c =
       (
         (
           c.requires.bound.0.0,
-          t_in _ _ c.to-1.given.1 c.read_name.ensures,
-          is_in_lem 46 c.args.t.now c.to-1.given.0.0 (byte_is c.peek.ensures c.if-peek-ne46.false) (lit< tt),
+          t_in _ _ c.in-Good.is c.read_name.ensures,
+          is_in_lem 46 c.args.t.now c.in-Good.to (byte_is c.peek.ensures c.if-peek-ne46.false) (lit< tt),
           c.requires.bound.0.2,
         ),
         c.requires.bound.1,
@@ -362,7 +361,7 @@ template-body-v-requires t c =
 
 pub template-overflow_add-i : goal.template-overflow_add-i
 template-overflow_add-i t c =
-    let g = g_in _ _ _ _ _ _ _ c.k-in-Good-k-1.given.1 c.body-v.ensures (lit< tt) in
+    let g = g_in _ _ _ _ _ _ _ c.in-Good-k.is c.body-v.ensures (lit< tt) in
     omega (arith, c.well_formed.1.0)
 
 pub template-filling-requires : goal.template-filling-requires
@@ -372,7 +371,7 @@ template-filling-requires t c =
       (
         (
           c.requires.bound.0.0,
-          (let g = g_in _ _ _ _ _ _ _ c.k-in-Good-k-1.given.1 c.body-v.ensures (lit< tt) in omega arith),
+          (let g = g_in _ _ _ _ _ _ _ c.in-Good-k.is c.body-v.ensures (lit< tt) in omega arith),
           omega (arith, c.requires.bound.0.2, c.body-v.auto.m),
         ),
         bound_fewer _ _ c.requires.bound.1 (omega arith),
@@ -380,14 +379,14 @@ template-filling-requires t c =
     )
 
 pub template-returns-in-Bad : goal.template-returns-in-Bad
-template-returns-in-Bad t c = t_none _ _ _ _ _ _ _ c.e-1.given.1 c.read_name.ensures
+template-returns-in-Bad t c = t_none _ _ _ _ _ _ _ c.in-Bad.is c.read_name.ensures
 
 pub template-returns-in-Bad-k : goal.template-returns-in-Bad-k
 template-returns-in-Bad-k t c =
-    t_bad _ _ _ _ _ _ _ c.to-1.given.1 c.read_name.ensures (byte_is c.peek.ensures c.if-peek-ne46.false) _
-    c.k-1.given.1 c.body-v.ensures
+    t_bad _ _ _ _ _ _ _ c.in-Good.is c.read_name.ensures (byte_is c.peek.ensures c.if-peek-ne46.false) _
+    c.in-Bad-k.is c.body-v.ensures
 
 pub template-returns-in-Good-k : goal.template-returns-in-Good-k
 template-returns-in-Good-k t c =
-    t_join _ _ _ _ _ _ _ c.to-1.given.1 c.read_name.ensures (byte_is c.peek.ensures c.if-peek-ne46.false) _
-    c.k-in-Good-k-1.given.1 c.body-v.ensures _ c.filling.ensures
+    t_join _ _ _ _ _ _ _ c.in-Good.is c.read_name.ensures (byte_is c.peek.ensures c.if-peek-ne46.false) _
+    c.in-Good-k.is c.body-v.ensures _ c.filling.ensures

@@ -10,12 +10,12 @@ from_start-v-requires c = (c.requires.0, omega arith, c.requires.1, omega arith,
 
 pub returns-then-not-ends_at : goal.returns-then-not-ends_at
 returns-then-not-ends_at c =
-    r_rest _ _ _ _ c.k-in-Good-1.given.1 c.from_start-v.ensures _ (eqb-false _ _ (sym c.ends_at.ensures ∙ not-true _ c.if-not-ends_at.true))
+    r_rest _ _ _ _ c.in-Good.is c.from_start-v.ensures _ (eqb-false _ _ (sym c.ends_at.ensures ∙ c.if-not-ends_at.true))
 
 pub returns-in-Bad : goal.returns-in-Bad
-returns-in-Bad c = r_bad _ _ _ _ _ c.k-1.given.1 c.from_start-v.ensures
+returns-in-Bad c = r_bad _ _ _ _ _ c.in-Bad.is c.from_start-v.ensures
 
 pub returns-else-not-ends_at : goal.returns-else-not-ends_at
 returns-else-not-ends_at c =
-    r_whole _ _ _ _ c.k-in-Good-1.given.1 c.from_start-v.ensures _ refl record { room = refl; no_cells = refl; no_operators = refl; no_place = refl }
-    c.requires.1 (eqb-true _ _ (sym c.ends_at.ensures ∙ not-false _ c.if-not-ends_at.false))
+    r_whole _ _ _ _ c.in-Good.is c.from_start-v.ensures _ refl record { room = refl; no_cells = refl; no_operators = refl; no_place = refl }
+    c.requires.1 (eqb-true _ _ (sym c.ends_at.ensures ∙ c.if-not-ends_at.false))

@@ -12,10 +12,10 @@ pub read_name-requires : goal.read_name-requires
 read_name-requires c = omega (arith, x_in c.args.t.now c.args.at c.requires)
 
 pub returns-in-Bad : goal.returns-in-Bad
-returns-in-Bad c = x_no_name _ _ c.requires (byte_isnt c.peek.ensures c.if-peek-ne94.true) c.e-1.given.1 c.read_name.ensures
+returns-in-Bad c = x_no_name _ _ c.requires (byte_isnt c.peek.ensures c.if-peek-ne94.true) c.in-Bad.is c.read_name.ensures
 
 pub returns-in-Good : goal.returns-in-Good
-returns-in-Good c = x_name _ _ c.requires (byte_isnt c.peek.ensures c.if-peek-ne94.true) c.e-in-Good-1.given.1 c.read_name.ensures
+returns-in-Good c = x_name _ _ c.requires (byte_isnt c.peek.ensures c.if-peek-ne94.true) c.in-Good.is c.read_name.ensures
 
 pub returns-then-peek-ne91 : goal.returns-then-peek-ne91
 returns-then-peek-ne91 c = x_square _ _ (byte_is c.peek.ensures c.if-peek-ne94.false) (byte_isnt c.peek-2.ensures c.if-peek-ne91.true)

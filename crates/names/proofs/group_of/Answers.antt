@@ -3,19 +3,19 @@ use borrow.Author.Rules.{rules}
 use Rattle.names.proofs.group_of.Goals as goal
 
 pub returns-then-s-eq0 : goal.returns-then-s-eq0
-returns-then-s-eq0 c = span_subject _ _ c.kind-in-Member-1.given.1 c.if-s-eq0.true
+returns-then-s-eq0 c = span_subject _ _ c.in-Member.is c.if-s-eq0.true
 
 pub returns-then-s-eq1 : goal.returns-then-s-eq1
-returns-then-s-eq1 c = span_object _ _ c.kind-in-Member-1.given.1 c.if-s-eq1.true
+returns-then-s-eq1 c = span_object _ _ c.in-Member.is c.if-s-eq1.true
 
 pub returns-in-Table : goal.returns-in-Table
-returns-in-Table c = rw c.enum_told-1.given.1
+returns-in-Table c = rw c.in-Table.is
 
 pub returns-in-RuleSet : goal.returns-in-RuleSet
-returns-in-RuleSet c = rw c.enum_told-in-RuleSet-1.given.1
+returns-in-RuleSet c = rw c.in-RuleSet.is
 
 pub returns-in-Predicate : goal.returns-in-Predicate
-returns-in-Predicate c = span_predicate _ _ c.kind-1.given.1 c.sort_tag.ensures
+returns-in-Predicate c = span_predicate _ _ c.in-Predicate.is c.sort_tag.ensures
 
 pub returns-else-s-eq1 : goal.returns-else-s-eq1
-returns-else-s-eq1 c = span_action _ _ c.kind-in-Member-1.given.1 c.if-s-eq0.false c.if-s-eq1.false
+returns-else-s-eq1 c = span_action _ _ c.in-Member.is c.if-s-eq0.false c.if-s-eq1.false

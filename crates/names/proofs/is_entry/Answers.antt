@@ -5,7 +5,7 @@ use borrow.Author.Rules.{rules}
 use Rattle.names.proofs.is_entry.Goals as goal
 
 pub returns-then-not-is_tagged : goal.returns-then-not-is_tagged
-returns-then-not-is_tagged c = entry_other _ _ _ (sym c.is_tagged.ensures ∙ not-true _ c.if-not-is_tagged.true)
+returns-then-not-is_tagged c = entry_other _ _ _ (sym c.is_tagged.ensures ∙ c.if-not-is_tagged.true)
 
 pub returns : goal.returns
-returns c = entry_named _ _ _ (sym c.is_tagged.ensures ∙ not-false _ c.if-not-is_tagged.false) c.is_name.ensures
+returns c = entry_named _ _ _ (sym c.is_tagged.ensures ∙ c.if-not-is_tagged.false) c.is_name.ensures

@@ -4,7 +4,7 @@ use borrow.Author.Rules.{rules}
 use Rattle.names.proofs.look.Goals as goal
 
 pub returns-in-Member : goal.returns-in-Member
-returns-in-Member c = member_found _ _ _ _ _ _ c.kind-1.given.1 _ c.look_member-l.result c.look_member-l.ensures
+returns-in-Member c = member_found _ _ _ _ _ _ c.in-Member.is _ c.look_member-l.result c.look_member-l.ensures
 
 pub find-requires : goal.find-requires
 find-requires c = (span_at _ _ _ _ _ c.requires.0 (kind_of c.args.kind) _ c.group_of-g.ensures, c.requires.1, c.requires.2)

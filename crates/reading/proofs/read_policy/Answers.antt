@@ -25,14 +25,14 @@ use Rattle.reading.proofs.read_policy.Goals as goal
 
 pub returns-then-not-is_file : goal.returns-then-not-is_file
 returns-then-not-is_file c =
-    record { read_as = refuse_as _ _ 2 0 0 _ _ (λ z. omega arith) (no_file _ (sym c.is_file.ensures ∙ not-true _ c.if-not-is_file.true)); w_unchanged = refl }
+    record { read_as = refuse_as _ _ 2 0 0 _ _ (λ z. omega arith) (no_file _ (sym c.is_file.ensures ∙ c.if-not-is_file.true)); w_unchanged = refl }
 
 pub loop-at-init : goal.loop-at-init
 loop-at-init c =
     (
   refl,
-  is_read _ (sym c.is_file.ensures ∙ not-false _ c.if-not-is_file.false),
-  at_start _ _ _ _ (sym c.is_file.ensures ∙ not-false _ c.if-not-is_file.false) (c.empty-st.ensures _ _),
+  is_read _ (sym c.is_file.ensures ∙ c.if-not-is_file.false),
+  at_start _ _ _ _ (sym c.is_file.ensures ∙ c.if-not-is_file.false) (c.empty-st.ensures _ _),
   refl,
 )
 
@@ -54,14 +54,14 @@ pub judge_grant-j-requires : goal.judge_grant-j-requires
 judge_grant-j-requires c =
     let I = c.loop-at.invariant in 
     let R = I.2 in 
-    let S = R.stands in record { sound = (S.sound, S.few, S.sizes.tags); actions_bound = S.counted; named = subst (LineWithin _) c.l-1.given.1 c.parse_line-l.ensures.line_within }
+    let S = R.stands in record { sound = (S.sound, S.few, S.sizes.tags); actions_bound = S.counted; named = subst (LineWithin _) c.in-Grant.is c.parse_line-l.ensures.line_within }
 
 pub returns-in-Refused : goal.returns-in-Refused
 returns-in-Refused c =
     let I = c.loop-at.invariant in 
     let R = I.2 in record { read_as = refused_line _ _ _ _ _ _ _ I.1 R c.loop-at-test.true c.piece_end-end.ensures.value _
-          (of_kind _ _ _ _ c.parse_line-l.ensures.result_value c.l-1.given.1) _ 0 (grant_no _ _ _ _ R.stands _ _ _ _ _
-          (c.judge_grant-j.ensures R.declared (names_stand _ _ _ _ _ _ R.stands.names) (sym R.stands.is_group)) _ c.j-1.given.1) _ _ _; w_unchanged = I.3 }
+          (of_kind _ _ _ _ c.parse_line-l.ensures.result_value c.in-Grant.is) _ 0 (grant_no _ _ _ _ R.stands _ _ _ _ _
+          (c.judge_grant-j.ensures R.declared (names_stand _ _ _ _ _ _ R.stands.names) (sym R.stands.is_group)) _ c.in-Refused.is) _ _ _; w_unchanged = I.3 }
 
 pub put_grant-requires : goal.put_grant-requires
 put_grant-requires c =
@@ -100,8 +100,8 @@ loop-at-preserved-in-Grant-j c =
       ap length put-grant.ensures ∙ length_written _ _ _ ∙ I.0,
       I.1,
       grant_next _ _ _ _ _ _ _ I.1 R c.loop-at-test.true c.piece_end-end.ensures.value _ _ _ _
-          (of_kind _ _ _ _ c.parse_line-l.ensures.result_value c.l-1.given.1) _
-          (c.judge_grant-j.ensures R.declared (names_stand _ _ _ _ _ _ R.stands.names) (sym R.stands.is_group)) _ c.j-in-Grant-j-1.given.1
+          (of_kind _ _ _ _ c.parse_line-l.ensures.result_value c.in-Grant.is) _
+          (c.judge_grant-j.ensures R.declared (names_stand _ _ _ _ _ _ R.stands.names) (sym R.stands.is_group)) _ c.in-Grant-j.is
           (let x = R.room in
           let y = c.loop-at-test.true in
           let z = I.1.short in
@@ -115,35 +115,35 @@ judge_predicate-j-requires c =
     let I = c.loop-at.invariant in
     let R = I.2 in
     let S = R.stands in
-    let q = subst (LineWithin _) c.l-in-Predicate-1.given.1 c.parse_line-l.ensures.line_within in
+    let q = subst (LineWithin _) c.in-Predicate.is c.parse_line-l.ensures.line_within in
     (S.sound, q.1, q.2, q.0)
 
 pub returns-in-Unmarked : goal.returns-in-Unmarked
 returns-in-Unmarked c =
     let I = c.loop-at.invariant in 
     let R = I.2 in 
-    let q = subst (LineWithin _) c.l-in-Predicate-1.given.1 c.parse_line-l.ensures.line_within in record { read_as = refused_line _ _ _ _ _ _ _ I.1 R c.loop-at-test.true c.piece_end-end.ensures.value _
-          (of_kind _ _ _ _ c.parse_line-l.ensures.result_value c.l-in-Predicate-1.given.1) _ 0 (unmarked _ _ _ _ R.stands _ _ _ _ q.0 q.1.order q.1.fits _
-          (c.judge_predicate-j.ensures R.declared (names_stand _ _ _ _ _ _ R.stands.names) (sym R.stands.is_group)) _ c.j-in-Unmarked-1.given.1) _ _
+    let q = subst (LineWithin _) c.in-Predicate.is c.parse_line-l.ensures.line_within in record { read_as = refused_line _ _ _ _ _ _ _ I.1 R c.loop-at-test.true c.piece_end-end.ensures.value _
+          (of_kind _ _ _ _ c.parse_line-l.ensures.result_value c.in-Predicate.is) _ 0 (unmarked _ _ _ _ R.stands _ _ _ _ q.0 q.1.order q.1.fits _
+          (c.judge_predicate-j.ensures R.declared (names_stand _ _ _ _ _ _ R.stands.names) (sym R.stands.is_group)) _ c.in-Unmarked.is) _ _
           _; w_unchanged = I.3 }
 
 pub mark_at-k-requires : goal.mark_at-k-requires
 mark_at-k-requires c =
     let I = c.loop-at.invariant in
     let R = I.2 in
-    let q = subst (LineWithin _) c.l-in-Predicate-1.given.1 c.parse_line-l.ensures.line_within in
+    let q = subst (LineWithin _) c.in-Predicate.is c.parse_line-l.ensures.line_within in
     let k = known_fits _ _ _ _ R.stands _ _ _ _ q.0 q.1.order q.1.fits _
-    (c.judge_predicate-j.ensures R.declared (names_stand _ _ _ _ _ _ R.stands.names) (sym R.stands.is_group)) _ _ c.j-in-Known-1.given.1 in
+    (c.judge_predicate-j.ensures R.declared (names_stand _ _ _ _ _ _ R.stands.names) (sym R.stands.is_group)) _ _ c.in-Known.is in
     (k.1, k.2)
 
 pub bounds-st-k : goal.bounds-st-k
 bounds-st-k c =
     let I = c.loop-at.invariant in
     let R = I.2 in
-    let q = subst (LineWithin _) c.l-in-Predicate-1.given.1 c.parse_line-l.ensures.line_within in
+    let q = subst (LineWithin _) c.in-Predicate.is c.parse_line-l.ensures.line_within in
     let k = known_fits _ _ _ _ R.stands _ _ _ _ q.0 q.1.order q.1.fits _
     (c.judge_predicate-j.ensures R.declared (names_stand _ _ _ _ _ _ R.stands.names) (sym R.stands.is_group)) _ _
-    c.j-in-Known-1.given.1 in
+    c.in-Known.is in
     let m = R.stands.sizes.marks in
     let y = k.1 in
     let z = k.2 in
@@ -162,14 +162,14 @@ loop-at-preserved-in-Known c =
     let I = c.loop-at.invariant in
     let R = I.2 in
     let S = R.stands in
-    let q = subst (LineWithin _) c.l-in-Predicate-1.given.1 c.parse_line-l.ensures.line_within in
+    let q = subst (LineWithin _) c.in-Predicate.is c.parse_line-l.ensures.line_within in
     let J = c.judge_predicate-j.ensures R.declared (names_stand _ _ _ _ _ _ S.names) (sym S.is_group) in
-    let j = c.j-in-Known-1.given.1 in
+    let j = c.in-Known.is in
     let T = known_at _ _ _ _ _ _ _ c.mark_at-k.ensures (known_stands _ _ _ _ S _ _ _ _ q.0 q.1.order q.1.fits _ J _ _ j) in (
       I.0,
       I.1,
       line_next _ _ _ _ _ _ _ I.1 R c.loop-at-test.true c.piece_end-end.ensures.value _ (predicate_low _ _ _)
-          (of_kind _ _ _ _ c.parse_line-l.ensures.result_value c.l-in-Predicate-1.given.1) (known_good _ _ _ _ S _ _ _ _ q.0 q.1.order q.1.fits _ J _ _ j) _ T,
+          (of_kind _ _ _ _ c.parse_line-l.ensures.result_value c.in-Predicate.is) (known_good _ _ _ _ S _ _ _ _ q.0 q.1.order q.1.fits _ J _ _ j) _ T,
       I.3,
     )
 
@@ -177,9 +177,9 @@ pub first_mark-st-requires : goal.first_mark-st-requires
 first_mark-st-requires c =
     let I = c.loop-at.invariant in
     let R = I.2 in
-    let q = subst (LineWithin _) c.l-in-Predicate-1.given.1 c.parse_line-l.ensures.line_within in
+    let q = subst (LineWithin _) c.in-Predicate.is c.parse_line-l.ensures.line_within in
     let k = fresh_fits _ _ _ _ R.stands _ _ _ _ q.0 q.1.order q.1.fits _
-    (c.judge_predicate-j.ensures R.declared (names_stand _ _ _ _ _ _ R.stands.names) (sym R.stands.is_group)) _ c.j-in-Fresh-1.given.1 in
+    (c.judge_predicate-j.ensures R.declared (names_stand _ _ _ _ _ _ R.stands.names) (sym R.stands.is_group)) _ c.in-Fresh.is in
     let s = I.1.short in (
       R.stands.sizes,
       R.stands.few,
@@ -202,14 +202,14 @@ loop-at-preserved-in-Fresh c =
     let I = c.loop-at.invariant in
     let R = I.2 in
     let S = R.stands in
-    let q = subst (LineWithin _) c.l-in-Predicate-1.given.1 c.parse_line-l.ensures.line_within in
+    let q = subst (LineWithin _) c.in-Predicate.is c.parse_line-l.ensures.line_within in
     let J = c.judge_predicate-j.ensures R.declared (names_stand _ _ _ _ _ _ S.names) (sym S.is_group) in
-    let j = c.j-in-Fresh-1.given.1 in
+    let j = c.in-Fresh.is in
     let T = fresh_stands _ _ _ _ S _ _ _ _ q.0 q.1.order q.1.fits _ J _ j _ c.first_mark-st.ensures in (
       I.0,
       I.1,
       line_next _ _ _ _ _ _ _ I.1 R c.loop-at-test.true c.piece_end-end.ensures.value _ (predicate_low _ _ _)
-          (of_kind _ _ _ _ c.parse_line-l.ensures.result_value c.l-in-Predicate-1.given.1) (fresh_good _ _ _ _ S _ _ _ _ q.0 q.1.order q.1.fits _ J _ j) _ T,
+          (of_kind _ _ _ _ c.parse_line-l.ensures.result_value c.in-Predicate.is) (fresh_good _ _ _ _ S _ _ _ _ q.0 q.1.order q.1.fits _ J _ j) _ T,
       beyond_same _ _ _ _ (same_grants _ _ _ _ _ _ _ I.1 R c.loop-at-test.true c.piece_end-end.ensures.value _ (predicate_low _ _ _) _ T)
           I.3,
     )
@@ -219,13 +219,13 @@ judge_expression-goal-requires c =
     let I = c.loop-at.invariant in
     let R = I.2 in
     let S = R.stands in
-    (S.sound, subst (LineWithin _) c.l-in-Expression-1.given.1 c.parse_line-l.ensures.line_within, I.1.short, S.few.tables)
+    (S.sound, subst (LineWithin _) c.in-Expression.is c.parse_line-l.ensures.line_within, I.1.short, S.few.tables)
 
 pub returns-then-goal-ne0 : goal.returns-then-goal-ne0
 returns-then-goal-ne0 c =
     let I = c.loop-at.invariant in 
     let R = I.2 in record { read_as = refused_line _ _ _ _ _ _ _ I.1 R c.loop-at-test.true c.piece_end-end.ensures.value _
-          (of_kind _ _ _ _ c.parse_line-l.ensures.result_value c.l-in-Expression-1.given.1) _ _ (goal_no _ _ _ _
+          (of_kind _ _ _ _ c.parse_line-l.ensures.result_value c.in-Expression.is) _ _ (goal_no _ _ _ _
           (c.judge_expression-goal.ensures R.declared (names_stand _ _ _ _ _ _ R.stands.names) (sym R.stands.is_group)) c.if-goal-ne0.true)
           _ _ _; w_unchanged = I.3 }
 
@@ -246,7 +246,7 @@ loop-at-preserved-in-Expression c =
       I.0,
       I.1,
       ended_at _ _ _ _ _ _ _ I.1 R c.loop-at-test.true c.piece_end-end.ensures.value _ _
-          (of_kind _ _ _ _ c.parse_line-l.ensures.result_value c.l-in-Expression-1.given.1) _ J c.if-goal-ne0.false _
+          (of_kind _ _ _ _ c.parse_line-l.ensures.result_value c.in-Expression.is) _ J c.if-goal-ne0.false _
           (goal_line _ _ _ _ R.stands _ _ _ J c.if-goal-ne0.false _ refl) refl refl,
       I.3,
     )
@@ -255,7 +255,7 @@ pub judge_rule-j-requires : goal.judge_rule-j-requires
 judge_rule-j-requires c =
     let I = c.loop-at.invariant in 
     let R = I.2 in 
-    let S = R.stands in record { sound = (S.sound, S.few); named = subst (LineWithin _) c.l-in-Rule-1.given.1 c.parse_line-l.ensures.line_within }
+    let S = R.stands in record { sound = (S.sound, S.few); named = subst (LineWithin _) c.in-Rule.is c.parse_line-l.ensures.line_within }
 
 pub returns-then-j-ne0 : goal.returns-then-j-ne0
 returns-then-j-ne0 c =
@@ -263,14 +263,14 @@ returns-then-j-ne0 c =
     let R = I.2 in 
     let S = R.stands in 
     let J = c.judge_rule-j.ensures.rule_judged R.declared (names_stand _ _ _ _ _ _ S.names) (sym S.is_group) (rules_are _ _ _ _ S) in record { read_as = refused_line _ _ _ _ _ _ _ I.1 R c.loop-at-test.true c.piece_end-end.ensures.value _
-          (of_kind _ _ _ _ c.parse_line-l.ensures.result_value c.l-in-Rule-1.given.1) _ 0 (refused_by _ J.verdict c.if-j-ne0.true) _ _ _; w_unchanged = I.3 }
+          (of_kind _ _ _ _ c.parse_line-l.ensures.result_value c.in-Rule.is) _ 0 (refused_by _ J.verdict c.if-j-ne0.true) _ _ _; w_unchanged = I.3 }
 
 pub first_rule-st-requires : goal.first_rule-st-requires
 first_rule-st-requires c =
     let I = c.loop-at.invariant in 
     let R = I.2 in 
     let S = R.stands in 
-    let q = subst (LineWithin _) c.l-in-Rule-1.given.1 c.parse_line-l.ensures.line_within in 
+    let q = subst (LineWithin _) c.in-Rule.is c.parse_line-l.ensures.line_within in 
     let fits = c.judge_rule-j.ensures.rule_fits in 
     let z = c.if-j-ne0.false in 
     let s = I.1.short in 
@@ -290,7 +290,7 @@ loop-at-preserved-then-j c =
     let I = c.loop-at.invariant in
     let R = I.2 in
     let S = R.stands in
-    let q = subst (LineWithin _) c.l-in-Rule-1.given.1 c.parse_line-l.ensures.line_within in
+    let q = subst (LineWithin _) c.in-Rule.is c.parse_line-l.ensures.line_within in
     let J = c.judge_rule-j.ensures.rule_judged R.declared (names_stand _ _ _ _ _ _ S.names) (sym S.is_group) (rules_are _ _ _ _ S) in
     let fits = c.judge_rule-j.ensures.rule_fits in
     let z = c.if-j-ne0.false in
@@ -298,7 +298,7 @@ loop-at-preserved-then-j c =
       I.0,
       I.1,
       line_next _ _ _ _ _ _ _ I.1 R c.loop-at-test.true c.piece_end-end.ensures.value _ (rule_low _ _ _ _)
-          (of_kind _ _ _ _ c.parse_line-l.ensures.result_value c.l-in-Rule-1.given.1) (rule_good _ _ _ _ S _ _ q.0.order q.0.fits _ _ _ _ J fits z) _ T,
+          (of_kind _ _ _ _ c.parse_line-l.ensures.result_value c.in-Rule.is) (rule_good _ _ _ _ S _ _ q.0.order q.0.fits _ _ _ _ J fits z) _ T,
       beyond_same _ _ _ _ (same_grants _ _ _ _ _ _ _ I.1 R c.loop-at-test.true c.piece_end-end.ensures.value _ (rule_low _ _ _ _) _ T) I.3,
     )
 
@@ -337,7 +337,7 @@ loop-at-preserved-in-Rule c =
     let I = c.loop-at.invariant in
     let R = I.2 in
     let S = R.stands in
-    let q = subst (LineWithin _) c.l-in-Rule-1.given.1 c.parse_line-l.ensures.line_within in
+    let q = subst (LineWithin _) c.in-Rule.is c.parse_line-l.ensures.line_within in
     let J = c.judge_rule-j.ensures.rule_judged R.declared (names_stand _ _ _ _ _ _ S.names) (sym S.is_group) (rules_are _ _ _ _ S) in
     let fits = c.judge_rule-j.ensures.rule_fits in
     let z = c.if-j-ne0.false in
@@ -345,7 +345,7 @@ loop-at-preserved-in-Rule c =
       I.0,
       I.1,
       line_next _ _ _ _ _ _ _ I.1 R c.loop-at-test.true c.piece_end-end.ensures.value _ (rule_low _ _ _ _)
-          (of_kind _ _ _ _ c.parse_line-l.ensures.result_value c.l-in-Rule-1.given.1) (rule_good _ _ _ _ S _ _ q.0.order q.0.fits _ _ _ _ J fits z) _ T,
+          (of_kind _ _ _ _ c.parse_line-l.ensures.result_value c.in-Rule.is) (rule_good _ _ _ _ S _ _ q.0.order q.0.fits _ _ _ _ J fits z) _ T,
       I.3,
     )
 
@@ -354,7 +354,7 @@ table_line-next-requires c =
     let I = c.loop-at.invariant in 
     let R = I.2 in 
     let S = R.stands in 
-    let q = subst (LineWithin _) c.l-in-Table-1.given.1 c.parse_line-l.ensures.line_within in record { sound = (S.sound, S.few, S.sizes, q, I.1.short); actions_bound = S.counted }
+    let q = subst (LineWithin _) c.in-Table.is c.parse_line-l.ensures.line_within in record { sound = (S.sound, S.few, S.sizes, q, I.1.short); actions_bound = S.counted }
 
 pub returns-then-next-ne0 : goal.returns-then-next-ne0
 returns-then-next-ne0 c =
@@ -362,7 +362,7 @@ returns-then-next-ne0 c =
     let R = I.2 in 
     let S = R.stands in 
     let J = c.table_line-next.ensures _ R.declared S in record { read_as = refused_line _ _ _ _ _ _ _ I.1 R c.loop-at-test.true c.piece_end-end.ensures.value _
-          (of_kind _ _ _ _ c.parse_line-l.ensures.result_value c.l-in-Table-1.given.1) _ 0 (judged_no _ _ _ _ _ J c.if-next-ne0.true) _ _ _; w_unchanged = I.3 }
+          (of_kind _ _ _ _ c.parse_line-l.ensures.result_value c.in-Table.is) _ 0 (judged_no _ _ _ _ _ J c.if-next-ne0.true) _ _ _; w_unchanged = I.3 }
 
 pub loop-at-smaller-in-Table : goal.loop-at-smaller-in-Table
 loop-at-smaller-in-Table c =
@@ -382,7 +382,7 @@ loop-at-preserved-in-Table c =
       I.0,
       I.1,
       line_next _ _ _ _ _ _ _ I.1 R c.loop-at-test.true c.piece_end-end.ensures.value _ (table_low _ _)
-          (of_kind _ _ _ _ c.parse_line-l.ensures.result_value c.l-in-Table-1.given.1) T.0 _ T.1,
+          (of_kind _ _ _ _ c.parse_line-l.ensures.result_value c.in-Table.is) T.0 _ T.1,
       beyond_same _ _ _ _ (same_grants _ _ _ _ _ _ _ I.1 R c.loop-at-test.true c.piece_end-end.ensures.value _ (table_low _ _) _
           T.1) I.3,
     )
@@ -400,7 +400,7 @@ returns-in-Barred c =
     let R = I.2 in 
     let S = R.stands in 
     let J = is_barred _ _ _ _ (c.judge_joining-j.ensures R.declared (names_stand _ _ _ _ _ _ S.names) (sym S.is_group))
-    c.j-in-Barred-1.given.1 in record { read_as = refused_line _ _ _ _ _ _ _ I.1 R c.loop-at-test.true c.piece_end-end.ensures.value _
+    c.in-Barred.is in record { read_as = refused_line _ _ _ _ _ _ _ I.1 R c.loop-at-test.true c.piece_end-end.ensures.value _
           (sym c.parse_line-l.ensures.result_value ∙ J.is) _ 0 J.refused _ _ _; w_unchanged = I.3 }
 
 pub overflow_cast-st : goal.overflow_cast-st
@@ -408,7 +408,7 @@ overflow_cast-st c =
     let I = c.loop-at.invariant in
     let R = I.2 in
     let S = R.stands in
-    let J = is_joined _ _ _ _ (c.judge_joining-j.ensures R.declared (names_stand _ _ _ _ _ _ S.names) (sym S.is_group)) c.j-in-Joins-1.given.1 in
+    let J = is_joined _ _ _ _ (c.judge_joining-j.ensures R.declared (names_stand _ _ _ _ _ _ S.names) (sym S.is_group)) c.in-Joins.is in
     omega (arith, J.named.order, J.named.fits, I.1.short)
 
 pub overflow_cast-st-in-Joins : goal.overflow_cast-st-in-Joins
@@ -416,7 +416,7 @@ overflow_cast-st-in-Joins c =
     let I = c.loop-at.invariant in
     let R = I.2 in
     let S = R.stands in
-    let J = is_joined _ _ _ _ (c.judge_joining-j.ensures R.declared (names_stand _ _ _ _ _ _ S.names) (sym S.is_group)) c.j-in-Joins-1.given.1 in
+    let J = is_joined _ _ _ _ (c.judge_joining-j.ensures R.declared (names_stand _ _ _ _ _ _ S.names) (sym S.is_group)) c.in-Joins.is in
     omega (arith, J.named.order, J.named.fits, I.1.short)
 
 pub offset_bounds-st-i-in-Joins : goal.offset_bounds-st-i-in-Joins
@@ -424,7 +424,7 @@ offset_bounds-st-i-in-Joins c =
     let I = c.loop-at.invariant in
     let R = I.2 in
     let S = R.stands in
-    let s = stored_sort c.j-in-Joins-1.given.0.0 in
+    let s = stored_sort c.in-Joins.s in
     omega (arith, base_fits _ S.few s, c.member_entry-i.ensures, c.members-m.ensures, S.sizes.starts)
 
 pub offset_bounds-st-i-in-Joins-2 : goal.offset_bounds-st-i-in-Joins-2
@@ -432,7 +432,7 @@ offset_bounds-st-i-in-Joins-2 c =
     let I = c.loop-at.invariant in
     let R = I.2 in
     let S = R.stands in
-    let s = stored_sort c.j-in-Joins-1.given.0.0 in
+    let s = stored_sort c.in-Joins.s in
     omega (arith, base_fits _ S.few s, c.member_entry-i.ensures, c.members-m.ensures, S.sizes.ends)
 
 pub bounds-st-i-in-Joins : goal.bounds-st-i-in-Joins
@@ -440,7 +440,7 @@ bounds-st-i-in-Joins c =
     let I = c.loop-at.invariant in
     let R = I.2 in
     let S = R.stands in
-    let s = stored_sort c.j-in-Joins-1.given.0.0 in
+    let s = stored_sort c.in-Joins.s in
     omega (arith, base_fits _ S.few s, c.member_entry-i.ensures, c.members-m.ensures, S.sizes.starts)
 
 pub bounds-st-i-in-Joins-2 : goal.bounds-st-i-in-Joins-2
@@ -448,7 +448,7 @@ bounds-st-i-in-Joins-2 c =
     let I = c.loop-at.invariant in
     let R = I.2 in
     let S = R.stands in
-    let s = stored_sort c.j-in-Joins-1.given.0.0 in
+    let s = stored_sort c.in-Joins.s in
     omega (arith, base_fits _ S.few s, c.member_entry-i.ensures, c.members-m.ensures, S.sizes.ends)
 
 pub bounds-st-i-in-Joins-3 : goal.bounds-st-i-in-Joins-3
@@ -456,7 +456,7 @@ bounds-st-i-in-Joins-3 c =
     let I = c.loop-at.invariant in
     let R = I.2 in
     let S = R.stands in
-    let s = stored_sort c.j-in-Joins-1.given.0.0 in
+    let s = stored_sort c.in-Joins.s in
     omega (arith, base_fits _ S.few s, c.member_entry-i.ensures, c.members-m.ensures, S.sizes.tags)
 
 pub insert_member-requires : goal.insert_member-requires
@@ -464,8 +464,8 @@ insert_member-requires c =
     let I = c.loop-at.invariant in
     let R = I.2 in
     let S = R.stands in
-    let J = is_joined _ _ _ _ (c.judge_joining-j.ensures R.declared (names_stand _ _ _ _ _ _ S.names) (sym S.is_group)) c.j-in-Joins-1.given.1 in
-    let few = few_255 _ S.few (stored_sort c.j-in-Joins-1.given.0.0) in
+    let J = is_joined _ _ _ _ (c.judge_joining-j.ensures R.declared (names_stand _ _ _ _ _ _ S.names) (sym S.is_group)) c.in-Joins.is in
+    let few = few_255 _ S.few (stored_sort c.in-Joins.s) in
     (J.named.order, J.named.fits, omega arith, length-set c.loop-at.st.tags _ _ ∙ S.sizes.tags)
 
 pub more_members-st-requires : goal.more_members-st-requires
@@ -488,7 +488,7 @@ loop-at-preserved-in-Joins c =
     let I = c.loop-at.invariant in
     let R = I.2 in
     let S = R.stands in
-    let J = is_joined _ _ _ _ (c.judge_joining-j.ensures R.declared (names_stand _ _ _ _ _ _ S.names) (sym S.is_group)) c.j-in-Joins-1.given.1 in
+    let J = is_joined _ _ _ _ (c.judge_joining-j.ensures R.declared (names_stand _ _ _ _ _ _ S.names) (sym S.is_group)) c.in-Joins.is in
     let T = joined_here _ _ _ _ S _ _ _ _ J _ _ _ _ c.members-m.ensures c.member_entry-i.ensures c.insert_member.ensures c.more_members-st.ensures in (
       I.0,
       I.1,
@@ -504,8 +504,8 @@ returns-then-not-is_body c =
     let S = R.stands in 
     let l = c.parse_line-l.result in 
     let J = is_elsewhere _ _ _ _ (c.judge_joining-j.ensures R.declared (names_stand _ _ _ _ _ _ S.names) (sym S.is_group))
-    c.enum_told-1.given.1 in record { read_as = wrong_line _ _ _ _ _ _ _ I.1 R c.loop-at-test.true c.piece_end-end.ensures.value
-          (sym c.parse_line-l.ensures.result_value ∙ wrong_form _ l c.in-Grant.keys6 J (sym c.is_body.ensures ∙ not-true _ c.if-not-is_body.true)) _ _ _; w_unchanged = I.3 }
+    c.in-Elsewhere.is in record { read_as = wrong_line _ _ _ _ _ _ _ I.1 R c.loop-at-test.true c.piece_end-end.ensures.value
+          (sym c.parse_line-l.ensures.result_value ∙ wrong_form _ l c.in-Grant.keys6 J (sym c.is_body.ensures ∙ c.if-not-is_body.true)) _ _ _; w_unchanged = I.3 }
 
 pub bounds-st-i-in-Elsewhere : goal.bounds-st-i-in-Elsewhere
 bounds-st-i-in-Elsewhere c =
@@ -528,7 +528,7 @@ returns-then-b-ne0 c =
     let S = R.stands in 
     let b = bodied _ c.parse_line-l.result
     (sym c.is_body.ensures
-    ∙ not-false _ c.if-not-is_body.false) in 
+    ∙ c.if-not-is_body.false) in 
     let same = last_same c.loop-at.st.rules _ _
     c.last_at-i.ensures in 
     let lines = c.lines_in-lines.ensures c.loop-at.st.rules same in 
@@ -543,7 +543,7 @@ with_line-requires c =
     let S = R.stands in
     let b = bodied _ c.parse_line-l.result
     (sym c.is_body.ensures
-    ∙ not-false _ c.if-not-is_body.false) in
+    ∙ c.if-not-is_body.false) in
     let same = last_same c.loop-at.st.rules _ _
     c.last_at-i.ensures in
     let lines = c.lines_in-lines.ensures c.loop-at.st.rules same in
@@ -593,7 +593,7 @@ loop-at-preserved c =
     let S = R.stands in
     let b = bodied _ c.parse_line-l.result (sym
     c.is_body.ensures
-    ∙ not-false _ c.if-not-is_body.false) in
+    ∙ c.if-not-is_body.false) in
     let same = last_same c.loop-at.st.rules _ _
     c.last_at-i.ensures in
     let lines = c.lines_in-lines.ensures c.loop-at.st.rules same in

@@ -25,4 +25,4 @@ loop-k-preserved c =
     )
 
 pub returns : goal.returns
-returns c = c.loop-k.invariant.2 k (omega (arith, c.loop-k-test.false))
+returns c k h = c.loop-k.invariant.2 k (omega (arith, c.loop-k-test.false))

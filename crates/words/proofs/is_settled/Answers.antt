@@ -6,7 +6,7 @@ pub returns-then-used-lt193 : goal.returns-then-used-lt193
 returns-then-used-lt193 c = rw (lt-leb 193 _ c.if-used-lt193.true)
 
 pub returns-in-At : goal.returns-in-At
-returns-in-At c = rw (le-leb 193 _ c.if-used-lt193.false, c.m-1.given.1)
+returns-in-At c = rw (le-leb 193 _ c.if-used-lt193.false, c.in-At.is)
 
 pub returns-in-Nowhere : goal.returns-in-Nowhere
-returns-in-Nowhere c = rw (le-leb 193 _ c.if-used-lt193.false, c.enum_told-1.given.1)
+returns-in-Nowhere c = rw (le-leb 193 _ c.if-used-lt193.false, c.in-Nowhere.is)

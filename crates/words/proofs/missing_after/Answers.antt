@@ -5,8 +5,8 @@ use Rattle.words.proofs.missing_after.Goals as goal
 
 pub returns-in-At : goal.returns-in-At
 unfolding place_after
-returns-in-At c = rw c.n-1.given.1
+returns-in-At c = rw c.in-At.is
 
 pub returns-in-Nothing : goal.returns-in-Nothing
 unfolding place_after
-returns-in-Nothing c = c.first_place.ensures ∙ rw c.enum_told-1.given.1
+returns-in-Nothing c = c.first_place.ensures ∙ rw c.in-Nothing.is

@@ -4,8 +4,8 @@ use Rattle.words.proofs.number_of.Goals as goal
 
 pub returns-in-At : goal.returns-in-At
 unfolding place
-returns-in-At c = rw c.n-1.given.1
+returns-in-At c = rw c.in-At.is
 
 pub returns-in-Nothing : goal.returns-in-Nothing
 unfolding place
-returns-in-Nothing c = rw c.enum_told-1.given.1
+returns-in-Nothing c = rw c.in-Nothing.is

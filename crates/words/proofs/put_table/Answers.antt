@@ -26,12 +26,12 @@ returns-in-At c =
     let args = c.args in
     c.put-in-At.ensures
     ∙ bound_table args.t.now args.firsts.now args.lasts.now args.bound _ _ _ _
-    c.bound_at.ensures (ap found_of c.i-1.given.1) c.table_cell-in-At.ensures
+    c.bound_at.ensures (ap found_of c.in-At.is) c.table_cell-in-At.ensures
 
 pub returns-in-Nothing : goal.returns-in-Nothing
 returns-in-Nothing c =
     let args = c.args in
     c.put-in-Nothing.ensures
     ∙ free_table args.t.now args.firsts.now args.lasts.now args.bound _ _ _ _
-    c.bound_at.ensures (ap found_of c.enum_told-1.given.1) c.look-n.ensures
+    c.bound_at.ensures (ap found_of c.in-Nothing.is) c.look-n.ensures
     c.number_of.ensures c.table_cell-c.ensures c.missing_after-after.ensures

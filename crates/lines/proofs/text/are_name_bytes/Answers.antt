@@ -15,14 +15,14 @@ pub returns-then-not-is_name_byte : goal.returns-then-not-is_name_byte
 returns-then-not-is_name_byte c =
     let a = c.args in
     let l = c.loop-i in
-    sym (l.invariant.1 ∙ name_stop a.f.now l.i a.to (omega arith) (omega arith) (sym c.is_name_byte.ensures ∙ not-true _ c.if-not-is_name_byte.true))
+    sym (l.invariant.1 ∙ name_stop a.f.now l.i a.to (omega arith) (omega arith) (sym c.is_name_byte.ensures ∙ c.if-not-is_name_byte.true))
 
 pub loop-i-preserved : goal.loop-i-preserved
 loop-i-preserved c =
     let a = c.args in
     let l = c.loop-i in (
       omega arith,
-      l.invariant.1 ∙ name_run a.f.now l.i a.to (omega arith) (omega arith) (sym c.is_name_byte.ensures ∙ not-false _ c.if-not-is_name_byte.false),
+      l.invariant.1 ∙ name_run a.f.now l.i a.to (omega arith) (omega arith) (sym c.is_name_byte.ensures ∙ c.if-not-is_name_byte.false),
     )
 
 pub returns : goal.returns

@@ -27,13 +27,13 @@ returns-then-not-is_letter c =
     let a = c.args in
     let w = slice a.p.from a.p.to a.f.now in
     let g : get_or w 0 0 ≡ get_or a.f.now a.p.from 0 = rw (part_get_or a.f.now a.p.from a.p.to 0 (omega arith), add-zero a.p.from) in
-    sym (name_first w (ap is_letter_lem g ∙ sym c.is_letter.ensures ∙ not-true _ c.if-not-is_letter.true))
+    sym (name_first w (ap is_letter_lem g ∙ sym c.is_letter.ensures ∙ c.if-not-is_letter.true))
 
 pub returns-then-not-are_name_bytes : goal.returns-then-not-are_name_bytes
 returns-then-not-are_name_bytes c =
     let a = c.args in
     let w = slice a.p.from a.p.to a.f.now in
-    sym (name_bytes w (sym c.are_name_bytes.ensures ∙ not-true _ c.if-not-are_name_bytes.true))
+    sym (name_bytes w (sym c.are_name_bytes.ensures ∙ c.if-not-are_name_bytes.true))
 
 pub returns : goal.returns
 returns c =
@@ -42,6 +42,6 @@ returns c =
     let g : get_or w 0 0 ≡ get_or a.f.now a.p.from 0 =
     rw (part_get_or a.f.now a.p.from a.p.to 0 (omega (arith, c.if-from-to.false, c.requires)), add-zero a.p.from) in
     let h : length w ≤ 24 = omega (arith, c.if-to-from-gt24.false, length-slice a.p.from a.p.to a.f.now c.requires.fits) in
-    let n = name_is w (ap is_letter_lem g ∙ sym c.is_letter.ensures ∙ not-false _ c.if-not-is_letter.false)
-    (sym c.are_name_bytes.ensures ∙ not-false _ c.if-not-are_name_bytes.false) h in
+    let n = name_is w (ap is_letter_lem g ∙ sym c.is_letter.ensures ∙ c.if-not-is_letter.false)
+    (sym c.are_name_bytes.ensures ∙ c.if-not-are_name_bytes.false) h in
     c.no_letter.ensures ∙ rw c.letter.ensures (sym n)
