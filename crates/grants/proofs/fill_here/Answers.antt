@@ -8,46 +8,29 @@ use Rattle.sets.proofs.Sets.{length_put_set}
 use Rattle.grants.proofs.Grants.{given, turn_miss, turn_beyond, turn_hit, empty_length, empty_given, all_given}
 use native.Mathlib.Omega.{arith}
 use Rattle.grants.proofs.fill_here.Goals as goal
-
--- the memory where the loop begins
-filled-room : (c : tie.Joined1 invariant-loop decreases-loop) → let c7 = c.before.before.before.before.before.before.before in
-    let start = c7.before.before.before.before in
-    Room start.args.k start.args.n c7.fill.new.0
-filled-room c =
-    let c7 = c.before.before.before.before.before.before.before in
-    let start = c7.before.before.before.before in
-    let a = start.args in
-    let p = start.requires.0 in
-    let e = empty_length a.table a.k a.n a.w.now c7.fill.new.0 p c7.fill.ensures in
-    (p.0, p.1, omega arith)
-
--- by either arm the turn's grant is counted
-turned : (c : tie.Joined1 invariant-loop decreases-loop) → let c4 = c.before.before.before.before in
-    let c7 = c4.before.before.before in
-    let args = c7.before.before.before.before.args in
-    c.if1.w ≡ put_set args.k args.n (given args.table (c4.loop.i + 1) c7.fill.new.0) c7.fill.new.0
-turned c =
-    let c4 = c.before.before.before.before in
-    let c7 = c4.before.before.before in
-    let a = c7.before.before.before.before.args in
-    let l = c4.loop in
-    let t = c7.before.before.wide.ensures.0 in
-    let r = filled-room c in
-    let g = c.before.grant-at in
-    let w₁ = c7.fill.new.0 in
-    ⊎_elim (λ s. s.2 ∙ turn_hit a.table a.k a.n l.i w₁ l.w r l.invariant.2 g.result g.ensures (s.0.taken ∙ t) s.1.taken)
-    (⊎_elim (λ s. s.2 ∙ turn_beyond a.table a.k a.n l.i w₁ l.w r l.invariant.2 g.result g.ensures (s.0.taken ∙ t) s.1.left)
-    (λ s. s.1 ∙ turn_miss a.table a.k a.n l.i w₁ l.w r l.invariant.2 g.result g.ensures (λ e. s.0.left (e ∙ sym t)))) c.if1.branch
+use Rattle.grants.proofs.fill_here.Goals.{then-g-t, else-g-t}
 
 pub loop-i-init : goal.loop-i-init
 loop-i-init c =
     let a = c.args in
     (omega arith, refl, empty_given a.table a.k a.n a.w.now _ c.requires.0 c.fill.ensures)
 
+-- by either arm the turn's grant is counted
 pub loop-i-preserved : goal.loop-i-preserved
 loop-i-preserved c =
-    let e = turned c in
-    (omega arith, ap length e ∙ length_put_set _ _ _ _ (omega (arith, filled-room c)), e)
+    let a = c.args in
+    let l = c.loop-i in
+    let t = c.wide-t.ensures.0 in
+    let p = c.requires.0 in
+    let w₁ = c.fill.new.w in
+    let n = empty_length a.table a.k a.n a.w.now w₁ p c.fill.ensures in
+    let r : Room a.k a.n w₁ = (p.0, p.1, omega arith) in
+    let g = c.grant_at-g in
+    let e : c.if-g-t.w ≡ put_set a.k a.n (given a.table (l.i + 1) w₁) w₁ = elim c.if-g-t.branch [
+      then-g-t w ↦ ?
+      | else-g-t w ↦ ?
+    ] in
+    (omega arith, ap length e ∙ length_put_set _ _ _ _ (omega (arith, r)), e)
 
 pub returns : goal.returns
 returns c =
