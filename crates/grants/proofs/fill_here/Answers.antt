@@ -8,7 +8,7 @@ use Rattle.sets.proofs.Sets.{length_put_set}
 use Rattle.grants.proofs.Grants.{given, turn_miss, turn_beyond, turn_hit, empty_length, empty_given, all_given}
 use native.Mathlib.Omega.{arith}
 use Rattle.grants.proofs.fill_here.Goals as goal
-use Rattle.grants.proofs.fill_here.Goals.{then-g-t, else-g-t}
+use Rattle.grants.proofs.fill_here.Goals.{then-g-t+then-x-n, then-g-t+else-x-n, else-g-t}
 
 pub loop-i-init : goal.loop-i-init
 loop-i-init c =
@@ -27,8 +27,9 @@ loop-i-preserved c =
     let r : Room a.k a.n w₁ = (p.0, p.1, omega arith) in
     let g = c.grant_at-g in
     let e : c.if-g-t.w ≡ put_set a.k a.n (given a.table (l.i + 1) w₁) w₁ = elim c.if-g-t.branch [
-      then-g-t w ↦ ?
-      | else-g-t w ↦ ?
+      then-g-t+then-x-n w ↦ w.w-is ∙ turn_hit a.table a.k a.n l.i w₁ l.w r l.invariant.2 g.result g.ensures (w.if-g-t.true ∙ t) w.if-x-n.true
+      | then-g-t+else-x-n w ↦ w.w-is ∙ turn_beyond a.table a.k a.n l.i w₁ l.w r l.invariant.2 g.result g.ensures (w.if-g-t.true ∙ t) w.if-x-n.false
+      | else-g-t w ↦ w.w-is ∙ turn_miss a.table a.k a.n l.i w₁ l.w r l.invariant.2 g.result g.ensures (λ e. w.if-g-t.false (e ∙ sym t))
     ] in
     (omega arith, ap length e ∙ length_put_set _ _ _ _ (omega (arith, r)), e)
 
