@@ -119,19 +119,19 @@ module _ (f : List ℕ) (d : Declared) (l : Parsed) (r : Joining) (J : LineJoins
   unfolding LineJoins
   is_elsewhere e = subst (LineJoins f d l) e J
 
--- a line of another kind; Root and Child have the tags 1 and 2
-pub no_member : (l : Parsed) → OneOf (0 ∷ 3 ∷ 4 ∷ 5 ∷ 6 ∷ 7 ∷ 8 ∷ 9 ∷ 10 ∷ []) (tag_of (declared enum) l) → NoMember l
-no_member Bad h = tt
-no_member (Root s n) h = miss (0 ∷ 3 ∷ 4 ∷ 5 ∷ 6 ∷ 7 ∷ 8 ∷ 9 ∷ 10 ∷ []) 1 tt h
-no_member (Child s n p) h = miss (0 ∷ 3 ∷ 4 ∷ 5 ∷ 6 ∷ 7 ∷ 8 ∷ 9 ∷ 10 ∷ []) 2 tt h
-no_member (Predicate s p m) h = tt
-no_member (Table t b) h = tt
-no_member (Grant t s o a) h = tt
-no_member (Rule r s o a) h = tt
-no_member (GrantBody s o a) h = tt
-no_member (OrderBody k s x y) h = tt
-no_member (HasBody s p x) h = tt
-no_member (Expression n t) h = tt
+-- a line of another kind
+pub no_member : (l : Parsed) → ((s : ℕ) (n : Part) → l ≡ Root s n → ⊥) → ((s : ℕ) (n p : Part) → l ≡ Child s n p → ⊥) → NoMember l
+no_member Bad h k = tt
+no_member (Root s n) h k = absurd (h s n refl)
+no_member (Child s n p) h k = absurd (k s n p refl)
+no_member (Predicate s p m) h k = tt
+no_member (Table t b) h k = tt
+no_member (Grant t s o a) h k = tt
+no_member (Rule r s o a) h k = tt
+no_member (GrantBody s o a) h k = tt
+no_member (OrderBody o s x y) h k = tt
+no_member (HasBody s p x) h k = tt
+no_member (Expression n t) h k = tt
 
 -- ---- the state after it
 

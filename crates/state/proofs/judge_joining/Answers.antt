@@ -23,4 +23,4 @@ returns-in-Child c d N g = joins_as _ d _ _ _ c.in-Child.is (c.judge_child.ensur
 
 pub returns-in_default : goal.returns-in_default
 unfolding LineJoins
-returns-in_default c d N g = no_member c.args.l c.in-Root.keys3
+returns-in_default c d N g = no_member c.args.l c.in_default.not-Root c.in_default.not-Child
