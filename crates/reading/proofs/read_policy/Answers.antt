@@ -505,7 +505,7 @@ returns-then-not-is_body c =
     let l = c.parse_line-l.result in 
     let J = is_elsewhere _ _ _ _ (c.judge_joining-j.ensures R.declared (names_stand _ _ _ _ _ _ S.names) (sym S.is_group))
     c.in-Elsewhere.is in record { read_as = wrong_line _ _ _ _ _ _ _ I.1 R c.loop-at-test.true c.piece_end-end.ensures.value
-          (sym c.parse_line-l.ensures.result_value ∙ wrong_form _ l c.in-Grant.keys6 J (sym c.is_body.ensures ∙ c.if-not-is_body.true)) _ _ _; w_unchanged = I.3 }
+          (sym c.parse_line-l.ensures.result_value ∙ wrong_form _ l c.in_default.not-Predicate c.in_default.not-Table c.in_default.not-Grant c.in_default.not-Rule c.in_default.not-Expression J (sym c.is_body.ensures ∙ c.if-not-is_body.true)) _ _ _; w_unchanged = I.3 }
 
 pub bounds-st-i-in-Elsewhere : goal.bounds-st-i-in-Elsewhere
 bounds-st-i-in-Elsewhere c =
