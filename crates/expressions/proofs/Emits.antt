@@ -86,11 +86,11 @@ one_more n h = rw (lt-ltb n most_count h) (omega arith)
 module _ (j : Joiner) where
   sign_cell : node_of (cell (sign_number j) 0 0 0) ≡ join_node j
   unfolding node_of stored_joiner sign_number
-  sign_cell = elim j [ plus-sign ↦ refl | and-sign ↦ refl | minus-sign ↦ refl ]
+  sign_cell = elim j as (λ k. node_of (cell (sign_number k) 0 0 0) ≡ join_node k) [ plus-sign ↦ refl | and-sign ↦ refl | minus-sign ↦ refl ]
 
   sign_operators : (n : ℕ) → operators_after_lem n (sign_number j) ≡ counted_to most_count n
   unfolding operators_after_lem sign_number
-  sign_operators n = elim j [ plus-sign ↦ refl | and-sign ↦ refl | minus-sign ↦ refl ]
+  sign_operators n = elim j as (λ k. operators_after_lem n (sign_number k) ≡ counted_to most_count n) [ plus-sign ↦ refl | and-sign ↦ refl | minus-sign ↦ refl ]
 
 -- a node where it is put
 own_node : (p : Nodes) (c : Cell) {s : Node Scope} → node_of c ≡ s → length p.cells ≡ 772 → p.used < most_cells → label (stored p c).cells p.used ≡ s

@@ -1,61 +1,49 @@
 -- The readers of an expression's parts, which call each other, meet their contracts. The brackets that may be opened fall,
 -- and within one bracket the calls are in order.
-use mathlib.Core.Path.{◌≡◌, refl, ◌∙◌}
-use native.Mathlib.Omega.{arith}
-use lib.Dec.{lit<}
-use lib.ListN.{length}
-use borrow.Author.Rules.{rules}
+use Rattle.std.proofs.Common.{◌≡◌, ℕ, ◌+◌, ◌*◌, ◌-◌, ◌<◌, ◌∙◌, refl, length, arith, rules}
+use Rattle.std.proofs.Math.Dec.{lit<}
 use Rattle.grammar.proofs.Machine.{is_in_lem}
-use Rattle.name_index.specs.Parts.{names_at}
-use Rattle.names.specs.Entries.{lookup_in}
-use Rattle.words.specs.Cells.{nodes_in}
-use Rattle.words.specs.Contract.{sign_code, ReadsMore}
+use Rattle.words.specs.Contract.{sign_code}
 use Rattle.words.proofs.Words.{seen, tested, n_bounds}
 use Rattle.words.proofs.Scopes.{byte_is, byte_isnt}
 use Rattle.words.proofs.Bound.{names_before, bound_more, bound_fewer}
 use Rattle.expressions.proofs.ReaderWays.{g_bad, g_good, g_open, g_in, h_first, h_second, h_third, h_good, p_full, p_bad, p_good, p_bound, p_template}
 use Rattle.expressions.proofs.ReaderWays.{p_none, p_table, p_word, p_lone, p_full_2, p_override, f_bad, f_in, f_join, m_first, m_end, m_in, m_bad}
 use Rattle.expressions.proofs.ReaderWays.{m_past, m_next, e_bad, e_in, e_join, b_part, k_none, k_bad, k_good, t_none, t_in, t_open, t_bad, t_join}
-use Prim.Native.Nat.{ℕ, ◌+◌, ◌*◌, ◌-◌, ◌<◌}
-use Rattle.expressions.proofs.+body_expression_factor_filling_more_overridden_part_primary_template.{
-  statement,
-}
-  close,
-}
 use Rattle.expressions.proofs.+body_expression_factor_filling_more_overridden_part_primary_template.Goals as goal
 
 pub body-put_first-s-requires : goal.body-put_first-s-requires
 body-put_first-s-requires t c =
-    (omega (arith, c.requires.bound.1.few), omega (arith, c.requires.bound.1.parts.in_starts), omega (arith, c.requires.bound.0.1, c.requires.bound.0.2, c.requires.bound.1.short))
+    (omega (arith, c.requires.bound.few), omega (arith, c.requires.bound.parts.in_starts), omega (arith, c.requires.sound.1, c.requires.sound.2, c.requires.bound.short))
 
 pub body-put_first-e-requires : goal.body-put_first-e-requires
 body-put_first-e-requires t c =
-    (omega (arith, c.requires.bound.1.few), omega (arith, c.requires.bound.1.parts.in_ends), omega (arith, c.requires.bound.0.2, c.requires.bound.1.short))
+    (omega (arith, c.requires.bound.few), omega (arith, c.requires.bound.parts.in_ends), omega (arith, c.requires.sound.2, c.requires.bound.short))
 
 pub body-overflow_add-bound : goal.body-overflow_add-bound
-body-overflow_add-bound t c = record { fits = omega (arith, c.requires.bound.1.few) }
+body-overflow_add-bound t c = record { fits = omega (arith, c.requires.bound.few) }
 
 pub body-part-requires : goal.body-part-requires
 body-part-requires t c =
     (
       search rules,
       (
-        (c.requires.bound.0.0, omega (arith, c.requires.bound.0.2), c.requires.bound.0.3),
-        bound_more _ _ _ _ _ _ _ _ c.requires.bound.1 _ _ c.put_first-s.ensures c.put_first-e.ensures c.requires.bound.0.1 (omega (arith, c.requires.bound.0.2)),
+        (c.requires.sound.0, omega (arith, c.requires.sound.2), c.requires.sound.3),
+        bound_more _ _ _ _ _ _ _ _ c.requires.bound _ _ c.put_first-s.ensures c.put_first-e.ensures c.requires.sound.1 (omega (arith, c.requires.sound.2)),
       ),
     )
 
 pub body-returns : goal.body-returns
 body-returns t c =
     b_part _ _ _ _ _ _ _ _
-    (names_before _ _ _ _ _ _ _ _ c.requires.bound.1 c.put_first-s.result c.put_first-e.result c.put_first-s.ensures c.put_first-e.ensures)
+    (names_before _ _ _ _ _ _ _ _ c.requires.bound c.put_first-s.result c.put_first-e.result c.put_first-s.ensures c.put_first-e.ensures)
     c.part.ensures
 
 pub expression-more-requires : goal.expression-more-requires
 expression-more-requires t c =
     (
       search rules,
-      ((c.requires.bound.0.0, e_in _ _ _ _ _ _ _ c.in-Good.is c.factor-v.ensures, omega (arith, c.requires.bound.0.2, c.factor-v.auto.m)), c.requires.bound.1),
+      ((c.requires.sound.0, e_in _ _ _ _ _ _ _ c.in-Good.is c.factor-v.ensures, omega (arith, c.requires.sound.2, c.factor-v.auto.m)), c.requires.bound),
     )
 
 pub expression-returns-in-Bad : goal.expression-returns-in-Bad
@@ -66,7 +54,7 @@ expression-returns-in-Good t c = e_join _ _ _ _ _ _ _ _ c.in-Good.is c.factor-v.
 
 pub factor-suffixes-requires : goal.factor-suffixes-requires
 factor-suffixes-requires t c =
-    (c.requires.bound.0.0, f_in _ _ _ _ _ _ _ c.in-Good.is c.primary-v.ensures, omega (arith, c.requires.bound.0.2, c.primary-v.auto.m))
+    (c.requires.sound.0, f_in _ _ _ _ _ _ _ c.in-Good.is c.primary-v.ensures, omega (arith, c.requires.sound.2, c.primary-v.auto.m))
 
 pub factor-returns-in-Bad : goal.factor-returns-in-Bad
 factor-returns-in-Bad t c = f_bad _ _ _ _ _ _ _ _ c.in-Bad.is c.primary-v.ensures
@@ -75,7 +63,7 @@ pub factor-returns-in-Good : goal.factor-returns-in-Good
 factor-returns-in-Good t c = f_join _ _ _ _ _ _ _ _ c.in-Good.is c.primary-v.ensures _ c.suffixes.ensures
 
 pub filling-returns-then-peek-ne40 : goal.filling-returns-then-peek-ne40
-filling-returns-then-peek-ne40 t c = k_none _ _ _ _ _ _ _ c.requires.bound.0.1 (byte_isnt c.peek.ensures c.if-peek-ne40.true)
+filling-returns-then-peek-ne40 t c = k_none _ _ _ _ _ _ _ c.requires.sound.1 (byte_isnt c.peek.ensures c.if-peek-ne40.true)
 
 pub filling-part-v-requires : goal.filling-part-v-requires
 filling-part-v-requires t c =
@@ -83,21 +71,21 @@ filling-part-v-requires t c =
       search rules,
       (
         (
-          c.requires.bound.0.0,
+          c.requires.sound.0,
           omega (arith, is_in_lem 40 c.args.t.now c.args.at (byte_is c.peek.ensures c.if-peek-ne40.false) (lit< tt)),
-          c.requires.bound.0.2,
+          c.requires.sound.2,
         ),
-        c.requires.bound.1,
+        c.requires.bound,
       ),
     )
 
 pub filling-put-q2-requires : goal.filling-put-q2-requires
-filling-put-q2-requires t c = omega (arith, c.requires.bound.0.2, c.part-v.auto.m)
+filling-put-q2-requires t c = omega (arith, c.requires.sound.2, c.part-v.auto.m)
 
 pub filling-overflow_add-result : goal.filling-overflow_add-result
 filling-overflow_add-result t c =
     let g = g_in _ _ _ _ _ _ _ c.in-Good.is c.part-v.ensures (lit< tt) in
-    omega (arith, c.well_formed.1.0)
+    omega (arith)
 
 pub filling-returns-in-Bad : goal.filling-returns-in-Bad
 filling-returns-in-Bad t c = k_bad _ _ _ _ _ _ _ (byte_is c.peek.ensures c.if-peek-ne40.false) _ c.in-Bad.is c.part-v.ensures
@@ -108,7 +96,7 @@ filling-returns-in-Good t c =
     c.put-q2.ensures
 
 pub more-loop-counts-init : goal.more-loop-counts-init
-more-loop-counts-init t c = (refl, m_first _ _ _ _ _ _ c.requires.bound.0.1)
+more-loop-counts-init t c = (refl, m_first _ _ _ _ _ _ c.requires.sound.1)
 
 pub more-returns-then-kind-eq0 : goal.more-returns-then-kind-eq0
 more-returns-then-kind-eq0 t c =
@@ -120,11 +108,11 @@ more-factor-v-requires t c =
       search rules,
       (
         (
-          c.requires.bound.0.0,
+          c.requires.sound.0,
           (let i = m_in _ _ _ _ _ _ _ _ c.loop-counts.invariant.1 c.peek.ensures c.sign-kind.ensures c.if-kind-eq0.false in omega arith),
-          omega (arith, c.requires.bound.0.2, c.loop-counts.invariant.0),
+          omega (arith, c.requires.sound.2, c.loop-counts.invariant.0),
         ),
-        c.requires.bound.1,
+        c.requires.bound,
       ),
     )
 
@@ -134,7 +122,7 @@ more-returns-in-Bad t c =
     c.in-Bad.is c.factor-v.ensures
 
 pub more-put-q-requires : goal.more-put-q-requires
-more-put-q-requires t c = omega (arith, c.requires.bound.0.2, c.loop-counts.invariant.0, c.factor-v.auto.m)
+more-put-q-requires t c = omega (arith, c.requires.sound.2, c.loop-counts.invariant.0, c.factor-v.auto.m)
 
 pub more-loop-counts-smaller : goal.more-loop-counts-smaller
 more-loop-counts-smaller t c =
@@ -161,18 +149,18 @@ overridden-part-v2-requires t c =
       search rules,
       (
         (
-          c.requires.bound.0.0,
+          c.requires.sound.0,
           (let g = g_in _ _ _ _ _ _ _ c.in-Good.is c.part-v.ensures (lit< tt) in omega arith),
-          omega (arith, c.requires.bound.0.2, c.part-v.auto.m),
+          omega (arith, c.requires.sound.2, c.part-v.auto.m),
         ),
-        c.requires.bound.1,
+        c.requires.bound,
       ),
     )
 
 pub overridden-overflow_add-j : goal.overridden-overflow_add-j
 overridden-overflow_add-j t c =
     let g = g_in _ _ _ _ _ _ _ c.in-Good-k2.is c.part-v2.ensures (lit< tt) in
-    omega (arith, c.good.1.0)
+    omega (arith)
 
 pub overridden-part-v3-requires : goal.overridden-part-v3-requires
 overridden-part-v3-requires t c =
@@ -180,21 +168,21 @@ overridden-part-v3-requires t c =
       omega (arith, c.requires.sound),
       (
         (
-          c.requires.bound.0.0,
+          c.requires.sound.0,
           (let g = g_in _ _ _ _ _ _ _ c.in-Good-k2.is c.part-v2.ensures (lit< tt) in omega arith),
-          omega (arith, c.requires.bound.0.2, c.part-v.auto.m, c.part-v2.auto.m),
+          omega (arith, c.requires.sound.2, c.part-v.auto.m, c.part-v2.auto.m),
         ),
-        c.requires.bound.1,
+        c.requires.bound,
       ),
     )
 
 pub overridden-put-q4-requires : goal.overridden-put-q4-requires
-overridden-put-q4-requires t c = omega (arith, c.requires.bound.0.2, c.part-v.auto.m, c.part-v2.auto.m, c.part-v3.auto.m)
+overridden-put-q4-requires t c = omega (arith, c.requires.sound.2, c.part-v.auto.m, c.part-v2.auto.m, c.part-v3.auto.m)
 
 pub overridden-overflow_add-result : goal.overridden-overflow_add-result
 overridden-overflow_add-result t c =
     let g = g_in _ _ _ _ _ _ _ c.in-Good-k3.is c.part-v3.ensures (lit< tt) in
-    omega (arith, c.good.1.0)
+    omega (arith)
 
 pub overridden-returns-in-Bad : goal.overridden-returns-in-Bad
 overridden-returns-in-Bad t c = h_first _ _ _ _ _ _ _ _ c.in-Bad.is c.part-v.ensures
@@ -228,7 +216,7 @@ pub primary-is_binding-requires : goal.primary-is_binding-requires
 primary-is_binding-requires t c = omega (arith, is_in_lem 40 c.args.t.now c.args.at (byte_is c.peek.ensures c.if-peek-eq40.true) (lit< tt))
 
 pub primary-overflow_add-at-then-is_binding : goal.primary-overflow_add-at-then-is_binding
-primary-overflow_add-at-then-is_binding t c = omega (arith, c.well_formed.1.0, p_bound c.args.t.now c.args.at c.is_binding.ensures c.if-is_binding.true)
+primary-overflow_add-at-then-is_binding t c = omega (arith, p_bound c.args.t.now c.args.at c.is_binding.ensures c.if-is_binding.true)
 
 pub primary-template-requires : goal.primary-template-requires
 primary-template-requires t c =
@@ -236,11 +224,11 @@ primary-template-requires t c =
       search rules,
       (
         (
-          c.requires.bound.0.0,
+          c.requires.sound.0,
           omega (arith, p_bound c.args.t.now c.args.at c.is_binding.ensures c.if-is_binding.true),
-          c.requires.bound.0.2,
+          c.requires.sound.2,
         ),
-        bound_fewer _ _ c.requires.bound.1 (let n = c.if-allow-eq0.false in search rules),
+        bound_fewer _ _ c.requires.bound (let n = c.if-allow-eq0.false in search rules),
       ),
     )
 
@@ -255,11 +243,11 @@ primary-part-v-requires t c =
       search rules,
       (
         (
-          c.requires.bound.0.0,
+          c.requires.sound.0,
           omega (arith, is_in_lem 40 c.args.t.now c.args.at (byte_is c.peek.ensures c.if-peek-eq40.true) (lit< tt)),
-          c.requires.bound.0.2,
+          c.requires.sound.2,
         ),
-        bound_fewer _ _ c.requires.bound.1 (omega arith),
+        bound_fewer _ _ c.requires.bound (omega arith),
       ),
     )
 
@@ -271,7 +259,7 @@ primary-returns-in-Bad t c =
 pub primary-overflow_add-result : goal.primary-overflow_add-result
 primary-overflow_add-result t c =
     let g = g_in _ _ _ _ _ _ _ c.in-Good.is c.part-v.ensures (lit< tt) in
-    omega (arith, c.well_formed.1.0)
+    omega (arith)
 
 pub primary-returns-in-Good : goal.primary-returns-in-Good
 primary-returns-in-Good t c =
@@ -283,30 +271,30 @@ primary-word_letter-letter-requires t c = n_bounds _ _ c.in-Good-word.is c.word.
 pub primary-put_table-q-requires : goal.primary-put_table-q-requires
 primary-put_table-q-requires t c =
     record { sound = (
-        c.requires.bound.0.0,
+        c.requires.sound.0,
         (let g = n_bounds _ _ c.in-Good-word.is c.word.ensures in omega arith),
         (n_bounds _ _ c.in-Good-word.is c.word.ensures).1,
-        c.requires.bound.0.2,
-      ); bound = bound_fewer _ 0 c.requires.bound.1 (omega arith) }
+        c.requires.sound.2,
+      ); bound = bound_fewer _ 0 c.requires.bound (omega arith) }
 
 pub primary-returns-then-letter-eq3 : goal.primary-returns-then-letter-eq3
 primary-returns-then-letter-eq3 t c =
-    p_table _ _ _ _ _ _ _ c.requires.bound.0.1 (byte_isnt c.peek.ensures c.if-peek-eq40.false) c.in-Good-word.is c.word.ensures
+    p_table _ _ _ _ _ _ _ c.requires.sound.1 (byte_isnt c.peek.ensures c.if-peek-eq40.false) c.in-Good-word.is c.word.ensures
     c.word_letter-letter.ensures c.if-letter-eq3.true c.put_table-q.ensures
 
 pub primary-returns-then-letter-ne1 : goal.primary-returns-then-letter-ne1
 primary-returns-then-letter-ne1 t c =
-    p_word _ _ _ _ _ _ _ c.requires.bound.0.1 (byte_isnt c.peek.ensures c.if-peek-eq40.false) c.in-Good-word.is c.word.ensures
+    p_word _ _ _ _ _ _ _ c.requires.sound.1 (byte_isnt c.peek.ensures c.if-peek-eq40.false) c.in-Good-word.is c.word.ensures
     c.word_letter-letter.ensures c.if-letter-eq3.false c.if-letter-ne1.true
 
 pub primary-returns-then-peek-ne40 : goal.primary-returns-then-peek-ne40
 primary-returns-then-peek-ne40 t c =
-    p_lone _ _ _ _ _ _ _ c.requires.bound.0.1 (byte_isnt c.peek.ensures c.if-peek-eq40.false) c.in-Good-word.is
+    p_lone _ _ _ _ _ _ _ c.requires.sound.1 (byte_isnt c.peek.ensures c.if-peek-eq40.false) c.in-Good-word.is
     c.word.ensures c.word_letter-letter.ensures c.if-letter-ne1.false (byte_isnt c.peek-in-Good-word.ensures c.if-peek-ne40.true)
 
 pub primary-returns-then-allow-eq0-2 : goal.primary-returns-then-allow-eq0-2
 primary-returns-then-allow-eq0-2 t c =
-    p_full_2 _ _ _ _ _ _ _ c.requires.bound.0.1 (byte_isnt c.peek.ensures c.if-peek-eq40.false) c.in-Good-word.is
+    p_full_2 _ _ _ _ _ _ _ c.requires.sound.1 (byte_isnt c.peek.ensures c.if-peek-eq40.false) c.in-Good-word.is
     c.word.ensures c.word_letter-letter.ensures c.if-letter-ne1.false
     (byte_is c.peek-in-Good-word.ensures c.if-peek-ne40.false) c.if-allow-eq0-2.true
 
@@ -322,22 +310,22 @@ primary-overridden-requires t c =
       search rules,
       (
         (
-          c.requires.bound.0.0,
+          c.requires.sound.0,
           omega (arith, is_in_lem 40 c.args.t.now c.in-Good-word.e (byte_is c.peek-in-Good-word.ensures c.if-peek-ne40.false) (lit< tt)),
-          c.requires.bound.0.2,
+          c.requires.sound.2,
         ),
-        bound_fewer _ _ c.requires.bound.1 (omega arith),
+        bound_fewer _ _ c.requires.bound (omega arith),
       ),
     )
 
 pub primary-returns-in-Bad-word : goal.primary-returns-in-Bad-word
 primary-returns-in-Bad-word t c =
-    p_none _ _ _ _ _ _ _ c.requires.bound.0.1 (byte_isnt c.peek.ensures c.if-peek-eq40.false) c.in-Bad-word.is
+    p_none _ _ _ _ _ _ _ c.requires.sound.1 (byte_isnt c.peek.ensures c.if-peek-eq40.false) c.in-Bad-word.is
     c.word.ensures
 
 pub primary-returns-else-allow-eq0-2 : goal.primary-returns-else-allow-eq0-2
 primary-returns-else-allow-eq0-2 t c =
-    p_override _ _ _ _ _ _ _ c.requires.bound.0.1 (byte_isnt c.peek.ensures c.if-peek-eq40.false) c.in-Good-word.is
+    p_override _ _ _ _ _ _ _ c.requires.sound.1 (byte_isnt c.peek.ensures c.if-peek-eq40.false) c.in-Good-word.is
     c.word.ensures c.word_letter-letter.ensures c.if-letter-ne1.false
     (byte_is c.peek-in-Good-word.ensures c.if-peek-ne40.false) c.if-allow-eq0-2.false _ c.overridden.ensures
 
@@ -350,19 +338,19 @@ template-body-v-requires t c =
       search rules,
       (
         (
-          c.requires.bound.0.0,
+          c.requires.sound.0,
           t_in _ _ c.in-Good.is c.read_name.ensures,
           is_in_lem 46 c.args.t.now c.in-Good.to (byte_is c.peek.ensures c.if-peek-ne46.false) (lit< tt),
-          c.requires.bound.0.2,
+          c.requires.sound.2,
         ),
-        c.requires.bound.1,
+        c.requires.bound,
       ),
     )
 
 pub template-overflow_add-i : goal.template-overflow_add-i
 template-overflow_add-i t c =
     let g = g_in _ _ _ _ _ _ _ c.in-Good-k.is c.body-v.ensures (lit< tt) in
-    omega (arith, c.well_formed.1.0)
+    omega (arith)
 
 pub template-filling-requires : goal.template-filling-requires
 template-filling-requires t c =
@@ -370,11 +358,11 @@ template-filling-requires t c =
       search rules,
       (
         (
-          c.requires.bound.0.0,
+          c.requires.sound.0,
           (let g = g_in _ _ _ _ _ _ _ c.in-Good-k.is c.body-v.ensures (lit< tt) in omega arith),
-          omega (arith, c.requires.bound.0.2, c.body-v.auto.m),
+          omega (arith, c.requires.sound.2, c.body-v.auto.m),
         ),
-        bound_fewer _ _ c.requires.bound.1 (omega arith),
+        bound_fewer _ _ c.requires.bound (omega arith),
       ),
     )
 
