@@ -1,27 +1,16 @@
 -- The readers of an expression's parts, which call each other, meet their contracts. The brackets that may be opened fall,
 -- and within one bracket the calls are in order.
-use Rattle.std.proofs.Common.{◌≡◌, ℕ, ◌+◌, ◌*◌, ◌-◌, ◌<◌, ◌∙◌, refl, length, arith, rules}
+use Rattle.std.proofs.Common.{◌∙◌, refl, arith, rules}
 use Rattle.std.proofs.Math.Dec.{lit<}
 use Rattle.grammar.proofs.Machine.{is_in_lem}
 use Rattle.words.specs.Contract.{sign_code}
 use Rattle.words.proofs.Words.{seen, tested, n_bounds}
 use Rattle.words.proofs.Scopes.{byte_is, byte_isnt}
 use Rattle.words.proofs.Bound.{names_before, bound_more, bound_fewer}
-use Rattle.expressions.proofs.ReaderWays.{g_bad, g_good, g_open, g_in, h_first, h_second, h_third, h_good, p_full, p_bad, p_good, p_bound, p_template}
+use Rattle.expressions.proofs.ReaderWays.{g_bad, g_good, g_open, g_in, h_first, h_second, h_third, h_good, p_full, p_bad, p_good, p_template}
 use Rattle.expressions.proofs.ReaderWays.{p_none, p_table, p_word, p_lone, p_full_2, p_override, f_bad, f_in, f_join, m_first, m_end, m_in, m_bad}
 use Rattle.expressions.proofs.ReaderWays.{m_past, m_next, e_bad, e_in, e_join, b_part, k_none, k_bad, k_good, t_none, t_in, t_open, t_bad, t_join}
 use Rattle.expressions.proofs.+body_expression_factor_filling_more_overridden_part_primary_template.Goals as goal
-
-pub body-put_first-s-requires : goal.body-put_first-s-requires
-body-put_first-s-requires t c =
-    (omega (arith, c.requires.bound.few), omega (arith, c.requires.bound.parts.in_starts), omega (arith, c.requires.sound.1, c.requires.sound.2, c.requires.bound.short))
-
-pub body-put_first-e-requires : goal.body-put_first-e-requires
-body-put_first-e-requires t c =
-    (omega (arith, c.requires.bound.few), omega (arith, c.requires.bound.parts.in_ends), omega (arith, c.requires.sound.2, c.requires.bound.short))
-
-pub body-overflow_add-bound : goal.body-overflow_add-bound
-body-overflow_add-bound t c = record { fits = omega (arith, c.requires.bound.few) }
 
 pub body-part-requires : goal.body-part-requires
 body-part-requires t c =
@@ -65,23 +54,6 @@ factor-returns-in-Good t c = f_join _ _ _ _ _ _ _ _ c.in-Good.is c.primary-v.ens
 pub filling-returns-then-peek-ne40 : goal.filling-returns-then-peek-ne40
 filling-returns-then-peek-ne40 t c = k_none _ _ _ _ _ _ _ c.requires.sound.1 (byte_isnt c.peek.ensures c.if-peek-ne40.true)
 
-pub filling-part-v-requires : goal.filling-part-v-requires
-filling-part-v-requires t c =
-    (
-      search rules,
-      (
-        (
-          c.requires.sound.0,
-          omega (arith, is_in_lem 40 c.args.t.now c.args.at (byte_is c.peek.ensures c.if-peek-ne40.false) (lit< tt)),
-          c.requires.sound.2,
-        ),
-        c.requires.bound,
-      ),
-    )
-
-pub filling-put-q2-requires : goal.filling-put-q2-requires
-filling-put-q2-requires t c = omega (arith, c.requires.sound.2, c.part-v.auto.m)
-
 pub filling-overflow_add-result : goal.filling-overflow_add-result
 filling-overflow_add-result t c =
     let g = g_in _ _ _ _ _ _ _ c.in-Good.is c.part-v.ensures (lit< tt) in
@@ -120,9 +92,6 @@ pub more-returns-in-Bad : goal.more-returns-in-Bad
 more-returns-in-Bad t c =
     m_bad _ _ _ _ _ _ _ _ c.loop-counts.invariant.1 c.peek.ensures c.sign-kind.ensures c.if-kind-eq0.false _ _
     c.in-Bad.is c.factor-v.ensures
-
-pub more-put-q-requires : goal.more-put-q-requires
-more-put-q-requires t c = omega (arith, c.requires.sound.2, c.loop-counts.invariant.0, c.factor-v.auto.m)
 
 pub more-loop-counts-smaller : goal.more-loop-counts-smaller
 more-loop-counts-smaller t c =
@@ -176,9 +145,6 @@ overridden-part-v3-requires t c =
       ),
     )
 
-pub overridden-put-q4-requires : goal.overridden-put-q4-requires
-overridden-put-q4-requires t c = omega (arith, c.requires.sound.2, c.part-v.auto.m, c.part-v2.auto.m, c.part-v3.auto.m)
-
 pub overridden-overflow_add-result : goal.overridden-overflow_add-result
 overridden-overflow_add-result t c =
     let g = g_in _ _ _ _ _ _ _ c.in-Good-k3.is c.part-v3.ensures (lit< tt) in
@@ -212,44 +178,10 @@ part-returns-else-peek-end t c = g_good _ _ _ _ _ _ _ c.in-Good.is c.expression-
 pub primary-returns-then-allow-eq0 : goal.primary-returns-then-allow-eq0
 primary-returns-then-allow-eq0 t c = p_full _ _ _ _ _ _ _ (byte_is c.peek.ensures c.if-peek-eq40.true) c.if-allow-eq0.true
 
-pub primary-is_binding-requires : goal.primary-is_binding-requires
-primary-is_binding-requires t c = omega (arith, is_in_lem 40 c.args.t.now c.args.at (byte_is c.peek.ensures c.if-peek-eq40.true) (lit< tt))
-
-pub primary-overflow_add-at-then-is_binding : goal.primary-overflow_add-at-then-is_binding
-primary-overflow_add-at-then-is_binding t c = omega (arith, p_bound c.args.t.now c.args.at c.is_binding.ensures c.if-is_binding.true)
-
-pub primary-template-requires : goal.primary-template-requires
-primary-template-requires t c =
-    (
-      search rules,
-      (
-        (
-          c.requires.sound.0,
-          omega (arith, p_bound c.args.t.now c.args.at c.is_binding.ensures c.if-is_binding.true),
-          c.requires.sound.2,
-        ),
-        bound_fewer _ _ c.requires.bound (let n = c.if-allow-eq0.false in search rules),
-      ),
-    )
-
 pub primary-returns-then-is_binding : goal.primary-returns-then-is_binding
 primary-returns-then-is_binding t c =
     p_template _ _ _ _ _ _ _ (byte_is c.peek.ensures c.if-peek-eq40.true) c.if-allow-eq0.false
     (tested c.is_binding.ensures c.if-is_binding.true) _ c.template.ensures
-
-pub primary-part-v-requires : goal.primary-part-v-requires
-primary-part-v-requires t c =
-    (
-      search rules,
-      (
-        (
-          c.requires.sound.0,
-          omega (arith, is_in_lem 40 c.args.t.now c.args.at (byte_is c.peek.ensures c.if-peek-eq40.true) (lit< tt)),
-          c.requires.sound.2,
-        ),
-        bound_fewer _ _ c.requires.bound (omega arith),
-      ),
-    )
 
 pub primary-returns-in-Bad : goal.primary-returns-in-Bad
 primary-returns-in-Bad t c =
@@ -297,26 +229,6 @@ primary-returns-then-allow-eq0-2 t c =
     p_full_2 _ _ _ _ _ _ _ c.requires.sound.1 (byte_isnt c.peek.ensures c.if-peek-eq40.false) c.in-Good-word.is
     c.word.ensures c.word_letter-letter.ensures c.if-letter-ne1.false
     (byte_is c.peek-in-Good-word.ensures c.if-peek-ne40.false) c.if-allow-eq0-2.true
-
-pub primary-overflow_add-e : goal.primary-overflow_add-e
-primary-overflow_add-e t c =
-    let g = n_bounds _ _ c.in-Good-word.is
-    c.word.ensures in
-    omega arith
-
-pub primary-overridden-requires : goal.primary-overridden-requires
-primary-overridden-requires t c =
-    (
-      search rules,
-      (
-        (
-          c.requires.sound.0,
-          omega (arith, is_in_lem 40 c.args.t.now c.in-Good-word.e (byte_is c.peek-in-Good-word.ensures c.if-peek-ne40.false) (lit< tt)),
-          c.requires.sound.2,
-        ),
-        bound_fewer _ _ c.requires.bound (omega arith),
-      ),
-    )
 
 pub primary-returns-in-Bad-word : goal.primary-returns-in-Bad-word
 primary-returns-in-Bad-word t c =

@@ -1,12 +1,7 @@
 use Rattle.expressions.proofs.Whole.{r_bad, r_rest, r_whole}
-use mathlib.Core.Path.{refl, sym, ◌∙◌}
-use native.Mathlib.Omega.{arith}
-use borrow.Author.Rules.{rules}
-use borrow.Author.Tests.{eqb-true, eqb-false, not-true, not-false}
+use Rattle.std.proofs.Common.{◌∙◌, refl, sym}
+use borrow.Author.Tests.{eqb-true, eqb-false}
 use Rattle.expressions.proofs.read.Goals as goal
-
-pub from_start-v-requires : goal.from_start-v-requires
-from_start-v-requires c = (c.requires.0, omega arith, c.requires.1, omega arith, c.requires.2)
 
 pub returns-then-not-ends_at : goal.returns-then-not-ends_at
 returns-then-not-ends_at c =
