@@ -12,5 +12,5 @@ use Rattle.composer.proofs.Runs.{few_two, few_three, few_scope, few_closure, few
 use Rattle.composer.proofs.Runs.{ran_table, ran_two, ran_three, ran_closure, ran_scope, ran_template}
 use Rattle.composer.proofs.+run.Given as goal
 
--- MEASURE abbrev μ-run : Measures 4 run-kinds.ps ℕ
-μ-run κs a = a.1.1.0
+abbrev pub decreases-run : goal.decreases-run
+decreases-run l = l.end

@@ -11,4 +11,4 @@ use Rattle.composer.proofs.tables.Given as goal
 
 abbrev pub invariant-loop-i : goal.invariant-loop-i
 invariant-loop-i l =
-    (i ≤ 1024) × (length l.t ≡ length l.initial.t) × (l.t ≡ put 12288 (tab i (λ i. get_or l.marks i 0)) l.initial.t)
+    (l.i ≤ 1024) × (length l.t ≡ length l.initial.t) × (l.t ≡ put 12288 (tab l.i (λ i. get_or l.marks i 0)) l.initial.t)
