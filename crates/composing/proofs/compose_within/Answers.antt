@@ -8,7 +8,7 @@ use Rattle.composing.proofs.compose_within.Goals as goal
 
 pub returns-then-read-ne0 : goal.returns-then-read-ne0
 returns-then-read-ne0 c =
-    let args = c.args in record { w_after = not_read args.f.now args.result.now args.w.now c.requires.0 c.requires.1 _ _ _ (c.read_within-read.ensures.read_as.no c.if-read-ne0.true)
+    let args = c.args in record { w_after = not_read args.f.now args.res.now args.w.now c.requires.0 c.requires.1 _ _ _ (c.read_within-read.ensures.read_as.no c.if-read-ne0.true)
           _ c.not_composed.ensures; w_unchanged = c.read_within-read.ensures.w_unchanged }
 
 pub run_policy-rounds-requires : goal.run_policy-rounds-requires
@@ -23,7 +23,7 @@ returns c =
     let if1 = c.if-read-ne0 in 
     let read-within = c.read_within-read in 
     let args = c.args in 
-    let ensures = c.run_policy-rounds.ensures args.f.now (read-within.ensures.read_as.yes if1.false) in record { w_after = read_all args.f.now args.result.now args.w.now c.requires.0 c.requires.1 read-within.new.w read-within.auto.w
+    let ensures = c.run_policy-rounds.ensures args.f.now (read-within.ensures.read_as.yes if1.false) in record { w_after = read_all args.f.now args.res.now args.w.now c.requires.0 c.requires.1 read-within.new.w read-within.auto.w
           read-within.result (read-within.ensures.read_as.yes if1.false) c.accesses-n.result
           (c.accesses-n.ensures ∙ ap total c.counts_of.ensures) _ _ ensures _ _ _ c.copy.ensures c.count-permits.ensures
           c.count-undecided.ensures; w_unchanged = cleared_after _ _ _ _ ensures ∙ read-within.ensures.w_unchanged }
@@ -34,10 +34,10 @@ copy-requires c =
     let read-within = c.read_within-read in
     let args = c.args in
     (
-      in_memory args.f.now args.result.now args.w.now c.requires.0 c.requires.1 read-within.new.w read-within.auto.w read-within.result
+      in_memory args.f.now args.res.now args.w.now c.requires.0 c.requires.1 read-within.new.w read-within.auto.w read-within.result
           (read-within.ensures.read_as.yes c.if-read-ne0.false) accesses.result (accesses.ensures ∙ ap total c.counts_of.ensures) c.run_policy-rounds.new.w
           c.run_policy-rounds.auto.w,
-      in_result args.f.now args.result.now args.w.now c.requires.0 c.requires.1 read-within.new.w read-within.auto.w read-within.result
+      in_result args.f.now args.res.now args.w.now c.requires.0 c.requires.1 read-within.new.w read-within.auto.w read-within.result
           (read-within.ensures.read_as.yes c.if-read-ne0.false) accesses.result (accesses.ensures ∙ ap total c.counts_of.ensures),
     )
 
@@ -45,7 +45,7 @@ pub count-permits-requires : goal.count-permits-requires
 count-permits-requires c =
     let read-within = c.read_within-read in
     let args = c.args in
-    in_memory args.f.now args.result.now args.w.now c.requires.0 c.requires.1 read-within.new.w read-within.auto.w
+    in_memory args.f.now args.res.now args.w.now c.requires.0 c.requires.1 read-within.new.w read-within.auto.w
     read-within.result (read-within.ensures.read_as.yes c.if-read-ne0.false) c.accesses-n.result
     (c.accesses-n.ensures ∙ ap total c.counts_of.ensures) c.run_policy-rounds.new.w c.run_policy-rounds.auto.w
 
@@ -53,6 +53,6 @@ pub count-undecided-requires : goal.count-undecided-requires
 count-undecided-requires c =
     let read-within = c.read_within-read in
     let args = c.args in
-    in_memory args.f.now args.result.now args.w.now c.requires.0 c.requires.1 read-within.new.w read-within.auto.w
+    in_memory args.f.now args.res.now args.w.now c.requires.0 c.requires.1 read-within.new.w read-within.auto.w
     read-within.result (read-within.ensures.read_as.yes c.if-read-ne0.false) c.accesses-n.result
     (c.accesses-n.ensures ∙ ap total c.counts_of.ensures) c.run_policy-rounds.new.w c.run_policy-rounds.auto.w

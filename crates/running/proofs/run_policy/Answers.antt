@@ -8,10 +8,9 @@ use Rattle.running.proofs.run_policy.Goals as goal
 pub fill_table-requires : goal.fill_table-requires
 fill_table-requires c =
     let a = c.args in
-    let G = c.requires.1.good in (
-      (refl, G.stands.sizes.tags, G.stands.sizes.marks),
-      can_fill c.requires.1.file a.w.now a.r G c.counts_of-n.result c.counts_of-n.ensures,
-    )
+    let G = c.requires.1.good in
+    let p = can_fill c.requires.1.file a.w.now a.r G c.counts_of-n.result c.counts_of-n.ensures in
+    record { t_len = (refl, G.stands.sizes.tags, G.stands.sizes.marks); subjects_bound = p.0; ordered = p.1 }
 
 pub fill_rules-requires : goal.fill_rules-requires
 fill_rules-requires c = (refl, omega (arith, c.wide-many.ensures.0, c.requires.1.good.stands.few_rules))
