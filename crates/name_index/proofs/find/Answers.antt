@@ -18,9 +18,6 @@ bounds-slots-at c = omega (arith, c.loop-read.invariant.at_slot.here, c.requires
 pub returns-then-s-eq0 : goal.returns-then-s-eq0
 returns-then-s-eq0 c = searching_free _ _ _ _ _ _ _ _ c.loop-read.invariant (search rules) c.if-s-eq0.true
 
-pub overflow_cast-m : goal.overflow_cast-m
-overflow_cast-m c = omega (arith, c.shared_slice_known-in-loop-read-1.given (c.args.at + c.loop-read.i))
-
 pub overflow_add-base : goal.overflow_add-base
 overflow_add-base c =
     omega (arith, c.if-s-eq0.false, slot_known _ _ _ _ _ _ _ _ c.loop-read.invariant c.requires.1, c.requires.0.in_starts)

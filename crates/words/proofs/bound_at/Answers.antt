@@ -16,16 +16,10 @@ bounds-firsts-k c =
     let test = c.loop-i-test in
     omega (arith, c.requires.0.in_starts, test.true)
 
-pub overflow_cast-firsts : goal.overflow_cast-firsts
-overflow_cast-firsts c = omega (arith, c.shared_slice_known-in-loop-i-1.given c.loop-i.i)
-
 pub bounds-lasts-k : goal.bounds-lasts-k
 bounds-lasts-k c =
     let test = c.loop-i-test in
     omega (arith, c.requires.0.in_ends, test.true)
-
-pub overflow_cast-lasts : goal.overflow_cast-lasts
-overflow_cast-lasts c = omega (arith, c.shared_slice_known-in-loop-i-2-1.given c.loop-i.i)
 
 pub is_same-requires : goal.is_same-requires
 is_same-requires c =
