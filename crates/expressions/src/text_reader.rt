@@ -1,5 +1,5 @@
-// The reader over the expression keeps the text and its place together. The borrow checker covers no function over such a struct, so each is proved by
-// hand. They are few, and leave the work to `unbound` and `at_end`, which take the text and the place.
+// The reader over the expression keeps the text and its place together. Its functions are few, and leave the work to `unbound` and `at_end`, which take
+// the text and the place.
 ghost use Rattle.std.specs.Prelude.{◌≡◌, [], ◌≤◌, eqb, length};
 ghost use Rattle.words.specs.Contract.{ExpressionAt};
 ghost use Rattle.words.specs.Cells.{nodes_in};

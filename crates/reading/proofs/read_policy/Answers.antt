@@ -610,7 +610,7 @@ loop-at-preserved c =
       I.3,
     )
 
--- before `returns-10`: a file without an E line that is taken fails here
+-- before `returns-then-st-ne7`: a file without an E line that is taken fails here
 pub returns : goal.returns
 returns c =
     let I = c.loop-at.invariant in let R = I.2 in record { read_as = all_read _ _ _ _ _ _ I.1 R (let x = R.within in let y = c.loop-at-test.false in omega arith) c.if-st-ne7.false; w_unchanged = I.3 }
