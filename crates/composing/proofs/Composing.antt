@@ -12,7 +12,7 @@ use Rattle.algebra.specs.Bytes.{cleared, written, tally}
 use Rattle.algebra.specs.Policy.{accesses}
 use Rattle.algebra.specs.StoredFrame.{total}
 use Rattle.composer.specs.Compose as Compose
-use Rattle.reader.specs.File.{refused, accepted, read_file}
+use Rattle.reader.specs.File.{refused, read_file}
 use Rattle.reading.specs.Reading.{ReadGood}
 use Rattle.reading.specs.declared.Reading.{Reading}
 use Rattle.running.specs.Runs.{grants_part}

@@ -8,7 +8,7 @@ use native.Mathlib.Omega.{arith}
 use lib.Dec.{eqb}
 use lib.ListN.{length, drop, length-drop}
 use Rattle.grammar.specs.Expression.{Exp, most_open}
-use Rattle.grammar.specs.Machine.{start, join, State, need, have, closed, parted, binding, delimited, stuck, whole, last, finish, step, run, Reading, read}
+use Rattle.grammar.specs.Machine.{start, join, State, need, have, closed, parted, binding, delimited, stuck, last, finish, step, run, Reading, read}
 use Rattle.grammar.specs.Machine.{wrong, told}
 use Rattle.grammar.specs.Machine.{reading}
 use Rattle.grammar.specs.Names.{Kind}

@@ -7,7 +7,7 @@ use Prim.Native.Nat.{ℕ, suc}
 use Rattle.algebra.specs.Algebra as Algebra
 use Rattle.grammar.specs.Text.{text}
 use Rattle.grammar.specs.Expression.{one, plain, table_name, template}
-use Rattle.grammar.specs.Names.{Kind, table}
+use Rattle.grammar.specs.Names.{Kind}
 use Rattle.grammar.specs.Lookup.{same, place}
 use Rattle.grammar.specs.Tree.{table_of, tree_e, tree_p}
 

@@ -8,7 +8,7 @@ use lib.Dec.{ltb}
 use borrow.Author.Tests.{eq-eqb, ne_eqb, lt-ltb, le-ltb}
 use Rattle.algebra.specs.Stored.{stored_joiner}
 use Rattle.algebra.specs.Nodes.{table_node, join_node, override_node, scope_node, closure_node, template_node, parts}
-use Rattle.nodes.specs.Cells.{cell, scope_in, node_of}
+use Rattle.nodes.specs.Cells.{scope_in, node_of}
 use Rattle.nodes.specs.declared.Cell.{Cell}
 
 module _ (c : Cell) where

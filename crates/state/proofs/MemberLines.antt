@@ -1,7 +1,7 @@
 -- A member's line, from its verdict, and the state after it. Assumes nothing.
 use mathlib.Core.Path.{◌≡◌, refl, sym, ◌∙◌, subst}
 use mathlib.Core.Bool.{true, false}
-use mathlib.Core.List.{List, [], ◌∷◌}
+use mathlib.Core.List.{List}
 use mathlib.Core.Option.{none, some}
 use Prim.{tt}
 use Prim.Native.Nat.{ℕ, suc, ◌+◌, ◌≤◌, ◌<◌}
@@ -9,8 +9,6 @@ use native.Mathlib.Omega.{arith}
 use native.Mathlib.Numerals.{add-one}
 use lib.ListN.{set}
 use lib.Seq.{slice}
-use types.Run.{OneOf, miss}
-use denote.Enum.Declared.{tag_of, declared}
 use Rattle.algebra.specs.Sort.{Sort, subject, object, action}
 use Rattle.algebra.specs.Stored.{stored_sort}
 use Rattle.grammar.specs.Lookup.{found}
@@ -29,7 +27,6 @@ use Rattle.lines.specs.Parsed.{text_of, Named}
 use Rattle.lines.specs.declared.text.Part.{Part}
 use Rattle.lines.specs.declared.line.Parsed.{Parsed}
 use Rattle.lines.specs.declared.line.Parsed.TheVariants.{Bad, Root, Child, Predicate, Table, Grant, Rule, GrantBody, OrderBody, HasBody, Expression}
-use Rattle.lines.specs.contracts.line.Parsed.{enum}
 use Rattle.state.specs.NameTables.{parent_tag}
 use Rattle.state.specs.Standing.{Few, NamesStand, Stands, placed_of, slotted_of, member_placed_of, more_members_lem}
 use Rattle.state.specs.Judged.{MemberJudged, Joined, Barring, NoMember, LineJoins}

@@ -1,6 +1,6 @@
 -- `composer::run` meets its contract. It calls itself on the parts of a tree; its measure is where the tree ends.
 use mathlib.Core.Path.{sym, ◌∙◌}
-use Prim.Native.Nat.{ℕ, ◌+◌, ◌≤◌, ◌<◌}
+use Prim.Native.Nat.{◌+◌, ◌≤◌}
 use native.Mathlib.Omega.{arith}
 use lib.ListN.{length}
 use Rattle.plans.proofs.Sets.{accesses_total}

@@ -2,7 +2,6 @@
 use mathlib.Core.Path.{refl}
 use native.Mathlib.Omega.{arith}
 use Rattle.composer.proofs.Cells.{small_two, small_three}
-use borrow.Author.Rules.{rules}
 use Rattle.composer.proofs.accesses.Goals as goal
 
 pub overflow_mul-result : goal.overflow_mul-result

@@ -1,6 +1,5 @@
 -- `composer::bound_first` meets its contract.
 use Rattle.composer.proofs.Named.{is_inner}
-use borrow.Author.Rules.{rules}
 use Rattle.composer.proofs.bound_first.Goals as goal
 
 pub returns : goal.returns

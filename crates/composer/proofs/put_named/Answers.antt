@@ -1,7 +1,6 @@
 -- `composer::put_named` meets its contract: a number below those of the bindings is one of these, and any other is a table's.
 use native.Mathlib.Omega.{arith}
 use Rattle.composer.proofs.Named.{bound_set, named_bound, named_table}
-use borrow.Author.Rules.{rules}
 use Rattle.composer.proofs.put_named.Goals as goal
 
 pub copy_set-requires : goal.copy_set-requires

@@ -1,6 +1,5 @@
 -- `composer::put_table` meets its contract: the flag says which of the two fills is the table's.
 use Rattle.composer.proofs.Named.{table_here, table_away}
-use borrow.Author.Rules.{rules}
 use Rattle.composer.proofs.put_table.Goals as goal
 
 pub returns-then-s-i-eq1 : goal.returns-then-s-i-eq1

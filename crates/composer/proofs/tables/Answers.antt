@@ -1,10 +1,8 @@
 -- `composer::tables` meets its contract: the loop has put the first i marks after the three orders.
-use mathlib.Core.Path.{◌≡◌, refl, ◌∙◌}
-use Prim.Native.Nat.{◌-◌, ◌≤◌}
+use mathlib.Core.Path.{refl, ◌∙◌}
+use Prim.Native.Nat.{◌-◌}
 use native.Mathlib.Omega.{arith}
-use lib.ListN.{length, get_or, length-set}
-use Rattle.algebra.specs.Lists.{tab}
-use Rattle.sets.specs.Bytes.{put}
+use lib.ListN.{get_or, length-set}
 use Rattle.sets.proofs.Bytes.{put_none, put_more, put_done}
 use Rattle.composer.proofs.Frames.{is_stored}
 use Rattle.composer.proofs.tables.Goals as goal

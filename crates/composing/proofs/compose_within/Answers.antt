@@ -3,7 +3,6 @@ use Prim.Native.Nat.{◌≤◌}
 use Rattle.algebra.specs.StoredFrame.{total}
 use Rattle.running.proofs.Lent.{cleared_after}
 use Rattle.composing.proofs.Composing.{not_read, in_result, in_memory, read_all}
-use borrow.Author.Rules.{rules}
 use Rattle.composing.proofs.compose_within.Goals as goal
 
 pub returns-then-read-ne0 : goal.returns-then-read-ne0

@@ -1,5 +1,4 @@
 use Rattle.deciding.proofs.Asking.{subject_at, object_at, action_at, asked_1, asked_2, asked_3, asked_all}
-use borrow.Author.Rules.{rules}
 use Rattle.deciding.proofs.ask.Goals as goal
 
 pub returns-in_default : goal.returns-in_default

@@ -2,7 +2,6 @@ use mathlib.Core.Path.{sym, subst, ◌∙◌}
 use Prim.Native.Nat.{◌≤◌}
 use Rattle.running.proofs.Lent.{cleared_after}
 use Rattle.deciding.proofs.Deciding.{not_read, unknown_read, known_fits, known_read}
-use borrow.Author.Rules.{rules}
 use Rattle.deciding.proofs.decide_within.Goals as goal
 
 pub returns-then-file-ne0 : goal.returns-then-file-ne0

@@ -2,7 +2,6 @@ use Prim.Native.Nat.{◌+◌}
 use Rattle.expressions.proofs.SuffixWays.{x_in, x_no_name, x_name, x_square, x_in_2, x_scope}
 use Rattle.words.proofs.Scopes.{byte_is, byte_isnt}
 use native.Mathlib.Omega.{arith}
-use borrow.Author.Rules.{rules}
 use Rattle.expressions.proofs.suffix.Goals as goal
 
 pub overflow_add-n : goal.overflow_add-n

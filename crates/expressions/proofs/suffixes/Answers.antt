@@ -1,12 +1,8 @@
 -- The cells in the slice, with what is known of them, are the nodes of the suffixes passed.
-use mathlib.Core.Path.{◌≡◌, refl, sym, ◌∙◌}
+use mathlib.Core.Path.{refl, sym, ◌∙◌}
 use Prim.Native.Nat.{◌-◌}
 use native.Mathlib.Omega.{arith}
-use lib.ListN.{length}
-use borrow.Author.Rules.{rules}
-use Rattle.names.specs.Entries.{lookup_in}
-use Rattle.words.specs.Contract.{suffix_byte, ReadsSuffixes}
-use Rattle.words.specs.Cells.{nodes_in}
+use Rattle.words.specs.Contract.{suffix_byte}
 use Rattle.words.proofs.Puts.{settled_named}
 use Rattle.words.proofs.Words.{seen}
 use Rattle.expressions.proofs.SuffixWays.{xs_first, xs_end, xs_bad, xs_in, xs_past, xs_next}

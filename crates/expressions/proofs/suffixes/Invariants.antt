@@ -1,15 +1,10 @@
 -- The cells in the slice, with what is known of them, are the nodes of the suffixes passed.
-use mathlib.Core.Path.{◌≡◌, refl, sym, ◌∙◌}
+use mathlib.Core.Path.{◌≡◌}
 use Prim.Native.Nat.{◌-◌}
-use native.Mathlib.Omega.{arith}
 use lib.ListN.{length}
-use borrow.Author.Rules.{rules}
 use Rattle.names.specs.Entries.{lookup_in}
-use Rattle.words.specs.Contract.{suffix_byte, ReadsSuffixes}
+use Rattle.words.specs.Contract.{ReadsSuffixes}
 use Rattle.words.specs.Cells.{nodes_in}
-use Rattle.words.proofs.Puts.{settled_named}
-use Rattle.words.proofs.Words.{seen}
-use Rattle.expressions.proofs.SuffixWays.{xs_first, xs_end, xs_bad, xs_in, xs_past, xs_next}
 use Rattle.expressions.proofs.suffixes.Given as goal
 
 abbrev pub invariant-loop-counts : goal.invariant-loop-counts

@@ -1,7 +1,6 @@
 use mathlib.Core.Path.{sym, ◌∙◌}
 use Rattle.goals.proofs.Goals.{told_part, has_tree, goal_4, goal_8, goal_7, goal_12, goal_13, goal_held, goal_operators, goal_deep, goal_good}
 use native.Mathlib.Omega.{arith}
-use borrow.Author.Rules.{rules}
 use Rattle.goals.proofs.judge_expression.Goals as goal
 
 pub returns-then-late : goal.returns-then-late

@@ -1,8 +1,7 @@
 -- `grants::fill_here` meets its contract: after i turns set k is what the first i grants give the table.
 use mathlib.Core.Path.{◌≡◌, refl, sym, ap, ◌∙◌}
-use mathlib.Core.Logic.{⊎_elim}
-use Prim.Native.Nat.{◌+◌, ◌-◌, ◌≤◌}
-use lib.ListN.{length, set}
+use Prim.Native.Nat.{◌+◌}
+use lib.ListN.{length}
 use Rattle.sets.specs.Sets.{Room, put_set}
 use Rattle.sets.proofs.Sets.{length_put_set}
 use Rattle.grants.proofs.Grants.{given, turn_miss, turn_beyond, turn_hit, empty_length, empty_given, all_given}
@@ -27,7 +26,7 @@ loop-i-preserved c =
     let r : Room a.k a.n w₁ = (p.0, p.1, omega arith) in
     let g = c.grant_at-g in
     let e : c.if-g-t.w ≡ put_set a.k a.n (given a.table (l.i + 1) w₁) w₁ = elim c.if-g-t.branch [
-      then-g-t+then-x-n w ↦ w.w-is ∙ turn_hit a.table a.k a.n l.i w₁ l.w r l.invariant.2 g.result g.ensures (w.if-g-t.true ∙ t) w.if-x-n.true
+      | then-g-t+then-x-n w ↦ w.w-is ∙ turn_hit a.table a.k a.n l.i w₁ l.w r l.invariant.2 g.result g.ensures (w.if-g-t.true ∙ t) w.if-x-n.true
       | then-g-t+else-x-n w ↦ w.w-is ∙ turn_beyond a.table a.k a.n l.i w₁ l.w r l.invariant.2 g.result g.ensures (w.if-g-t.true ∙ t) w.if-x-n.false
       | else-g-t w ↦ w.w-is ∙ turn_miss a.table a.k a.n l.i w₁ l.w r l.invariant.2 g.result g.ensures (λ e. w.if-g-t.false (e ∙ sym t))
     ] in

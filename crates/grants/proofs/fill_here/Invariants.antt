@@ -1,12 +1,9 @@
 -- `grants::fill_here` meets its contract: after i turns set k is what the first i grants give the table.
-use mathlib.Core.Path.{◌≡◌, refl, sym, ap, ◌∙◌}
-use mathlib.Core.Logic.{⊎_elim}
-use Prim.Native.Nat.{◌+◌, ◌-◌, ◌≤◌}
-use lib.ListN.{length, set}
-use Rattle.sets.specs.Sets.{Room, put_set}
-use Rattle.sets.proofs.Sets.{length_put_set}
-use Rattle.grants.proofs.Grants.{given, turn_miss, turn_beyond, turn_hit, empty_length, empty_given, all_given}
-use native.Mathlib.Omega.{arith}
+use mathlib.Core.Path.{◌≡◌}
+use Prim.Native.Nat.{◌≤◌}
+use lib.ListN.{length}
+use Rattle.sets.specs.Sets.{put_set}
+use Rattle.grants.proofs.Grants.{given}
 use Rattle.grants.proofs.fill_here.Given as goal
 
 abbrev pub invariant-loop-i : goal.invariant-loop-i

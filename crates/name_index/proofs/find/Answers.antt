@@ -1,7 +1,5 @@
 use mathlib.Core.Path.{sym, ◌∙◌}
-use Prim.Native.Nat.{◌+◌, ◌-◌}
-use lib.Seq.{slice}
-use Rattle.name_index.proofs.Parts.{part_one, Searching, searching_first, searching_free, slot_known, searching_hit, searching_next, searching_end}
+use Rattle.name_index.proofs.Parts.{part_one, searching_first, searching_free, slot_known, searching_hit, searching_next, searching_end}
 use borrow.Author.Rules.{rules}
 use native.Mathlib.Omega.{arith}
 use Rattle.name_index.proofs.find.Goals as goal

@@ -1,9 +1,6 @@
-use mathlib.Core.Path.{sym, ◌∙◌}
-use Prim.Native.Nat.{◌+◌, ◌-◌}
+use Prim.Native.Nat.{◌-◌}
 use lib.Seq.{slice}
-use Rattle.name_index.proofs.Parts.{part_one, Searching, searching_first, searching_free, slot_known, searching_hit, searching_next, searching_end}
-use borrow.Author.Rules.{rules}
-use native.Mathlib.Omega.{arith}
+use Rattle.name_index.proofs.Parts.{Searching}
 use Rattle.name_index.proofs.find.Given as goal
 
 abbrev pub invariant-loop-read : goal.invariant-loop-read

@@ -1,6 +1,5 @@
 use mathlib.Core.Path.{refl}
 use lib.Bits.{xor_lt}
-use borrow.Author.Rules.{rules}
 use native.Mathlib.Omega.{arith}
 use Rattle.name_index.specs.Hash.{fnv_step_lem}
 use Rattle.name_index.proofs.fnv_step.Goals as goal

@@ -1,8 +1,6 @@
 use Prim.Native.Nat.{◌-◌}
 use lib.Seq.{slice}
-use Rattle.name_index.proofs.Parts.{Freeing, freeing_first, freeing_found, freeing_next, freeing_end}
-use borrow.Author.Rules.{rules}
-use native.Mathlib.Omega.{arith}
+use Rattle.name_index.proofs.Parts.{Freeing}
 use Rattle.name_index.proofs.free_slot.Given as goal
 
 abbrev pub invariant-loop-taken : goal.invariant-loop-taken

@@ -1,5 +1,4 @@
 use Rattle.name_index.proofs.Parts.{put_is}
-use borrow.Author.Rules.{rules}
 use Rattle.name_index.proofs.insert.Goals as goal
 
 pub returns : goal.returns

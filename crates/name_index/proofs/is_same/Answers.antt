@@ -1,5 +1,4 @@
-use Prim.Native.Nat.{◌-◌}
-use Rattle.name_index.proofs.Same.{Comparing, same_lengths, same_first, same_differ, same_next, same_end}
+use Rattle.name_index.proofs.Same.{same_lengths, same_first, same_differ, same_next, same_end}
 use borrow.Author.Rules.{rules}
 use Rattle.name_index.proofs.is_same.Goals as goal
 

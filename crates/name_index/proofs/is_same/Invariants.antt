@@ -1,6 +1,5 @@
 use Prim.Native.Nat.{◌-◌}
-use Rattle.name_index.proofs.Same.{Comparing, same_lengths, same_first, same_differ, same_next, same_end}
-use borrow.Author.Rules.{rules}
+use Rattle.name_index.proofs.Same.{Comparing}
 use Rattle.name_index.proofs.is_same.Given as goal
 
 abbrev pub invariant-loop-i : goal.invariant-loop-i

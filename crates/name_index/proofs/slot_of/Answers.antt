@@ -1,5 +1,4 @@
-use Prim.Native.Nat.{◌-◌}
-use Rattle.name_index.proofs.Hash.{Hashing, hash_first, hash_next, hash_end}
+use Rattle.name_index.proofs.Hash.{hash_first, hash_next, hash_end}
 use borrow.Author.Rules.{rules}
 use native.Mathlib.Omega.{arith}
 use Rattle.name_index.proofs.slot_of.Goals as goal

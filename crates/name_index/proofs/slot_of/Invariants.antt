@@ -1,7 +1,5 @@
 use Prim.Native.Nat.{◌-◌}
-use Rattle.name_index.proofs.Hash.{Hashing, hash_first, hash_next, hash_end}
-use borrow.Author.Rules.{rules}
-use native.Mathlib.Omega.{arith}
+use Rattle.name_index.proofs.Hash.{Hashing}
 use Rattle.name_index.proofs.slot_of.Given as goal
 
 abbrev pub invariant-loop-i : goal.invariant-loop-i

@@ -1,8 +1,6 @@
 use mathlib.Core.Path.{sym, ◌∙◌}
 use Prim.Native.Nat.{◌-◌}
-use lib.Seq.{slice}
-use Rattle.names.specs.Entries.{entry_at, is_entry_lem}
-use Rattle.names.proofs.Lookup.{group_one, Searching, search_first, search_found, search_next, search_end}
+use Rattle.names.proofs.Lookup.{group_one, search_first, search_found, search_next, search_end}
 use borrow.Author.Rules.{rules}
 use native.Mathlib.Omega.{arith}
 use Rattle.names.proofs.find.Goals as goal

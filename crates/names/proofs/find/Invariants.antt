@@ -1,10 +1,7 @@
-use mathlib.Core.Path.{sym, ◌∙◌}
 use Prim.Native.Nat.{◌-◌}
 use lib.Seq.{slice}
 use Rattle.names.specs.Entries.{entry_at, is_entry_lem}
-use Rattle.names.proofs.Lookup.{group_one, Searching, search_first, search_found, search_next, search_end}
-use borrow.Author.Rules.{rules}
-use native.Mathlib.Omega.{arith}
+use Rattle.names.proofs.Lookup.{Searching}
 use Rattle.names.proofs.find.Given as goal
 
 abbrev pub invariant-loop-i : goal.invariant-loop-i

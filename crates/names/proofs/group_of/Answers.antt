@@ -1,5 +1,4 @@
 use Rattle.names.proofs.Lookup.{span_predicate, span_subject, span_object, span_action}
-use borrow.Author.Rules.{rules}
 use Rattle.names.proofs.group_of.Goals as goal
 
 pub returns-then-s-eq0 : goal.returns-then-s-eq0

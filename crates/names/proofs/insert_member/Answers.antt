@@ -1,7 +1,6 @@
 use native.Mathlib.Omega.{arith}
 use Rattle.algebra.specs.Stored.{stored_sort}
 use Rattle.names.proofs.Lookup.{slots_within, inserted}
-use borrow.Author.Rules.{rules}
 use Rattle.names.proofs.insert_member.Goals as goal
 
 pub insert-requires : goal.insert-requires

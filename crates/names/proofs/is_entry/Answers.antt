@@ -1,7 +1,5 @@
 use mathlib.Core.Path.{sym, ◌∙◌}
-use borrow.Author.Tests.{not-true, not-false}
 use Rattle.names.proofs.Lookup.{entry_other, entry_named}
-use borrow.Author.Rules.{rules}
 use Rattle.names.proofs.is_entry.Goals as goal
 
 pub returns-then-not-is_tagged : goal.returns-then-not-is_tagged

@@ -1,6 +1,5 @@
 use Rattle.names.specs.Entries.{kind_of}
 use Rattle.names.proofs.Lookup.{span_at, looked, member_found}
-use borrow.Author.Rules.{rules}
 use Rattle.names.proofs.look.Goals as goal
 
 pub returns-in-Member : goal.returns-in-Member

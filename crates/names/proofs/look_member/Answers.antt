@@ -1,6 +1,5 @@
 use Rattle.algebra.specs.Stored.{stored_sort}
 use Rattle.names.proofs.Lookup.{member_parts, member_slots, member_looked}
-use borrow.Author.Rules.{rules}
 use Rattle.names.proofs.look_member.Goals as goal
 
 pub find-requires : goal.find-requires

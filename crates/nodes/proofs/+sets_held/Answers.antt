@@ -3,7 +3,7 @@ use mathlib.Core.Path.{ap, ◌∙◌}
 use native.Mathlib.Omega.{arith}
 use Rattle.nodes.proofs.Held.{some_tree, held_few, held_table, right_tree, left_tree, held_join, third_tree, second_tree, first_tree, held_override}
 use Rattle.nodes.proofs.Held.{one_tree, held_one, filling_tree, body_tree, held_template}
-use Prim.Native.Nat.{ℕ, ◌<◌, max}
+use Prim.Native.Nat.{max}
 use Rattle.nodes.proofs.+sets_held.Goals as goal
 
 pub overflow_sub-own : goal.overflow_sub-own
@@ -16,11 +16,10 @@ pub returns-then-c-eq0 : goal.returns-then-c-eq0
 returns-then-c-eq0 t c = held_table c.requires c.cell_at-c.result c.cell_at-c.ensures c.if-c-eq0.true
 
 pub sets_held-r-requires : goal.sets_held-r-requires
-sets_held-r-requires t c =
-    (
-      omega (arith, some_tree c.requires),
-      right_tree c.requires c.cell_at-c.result c.cell_at-c.ensures c.if-c-eq0.false c.if-c-lt4.true,
-    )
+sets_held-r-requires t c = (
+  omega (arith, some_tree c.requires),
+  right_tree c.requires c.cell_at-c.result c.cell_at-c.ensures c.if-c-eq0.false c.if-c-lt4.true,
+)
 
 pub sets_held-l-requires : goal.sets_held-l-requires
 sets_held-l-requires t c =
@@ -71,11 +70,10 @@ returns-then-c-eq4 t c =
     (c.larger-then-c-eq4-2.ensures ∙ ap (max p.result.sets) c.larger-then-c-eq4.ensures) (c.larger-then-c-eq4-4.ensures ∙ ap (max p.result.bindings) c.larger-then-c-eq4-3.ensures)
 
 pub sets_held-requires : goal.sets_held-requires
-sets_held-requires t c =
-    (
-      omega (arith, some_tree c.requires),
-      one_tree c.requires c.cell_at-c.result c.cell_at-c.ensures (omega (arith, c.if-c-lt4.false, c.if-c-eq4.false)) c.if-c-lt8.true,
-    )
+sets_held-requires t c = (
+  omega (arith, some_tree c.requires),
+  one_tree c.requires c.cell_at-c.result c.cell_at-c.ensures (omega (arith, c.if-c-lt4.false, c.if-c-eq4.false)) c.if-c-lt8.true,
+)
 
 pub returns-then-c-lt8 : goal.returns-then-c-lt8
 returns-then-c-lt8 t c =
@@ -83,11 +81,10 @@ returns-then-c-lt8 t c =
     c.sets_held.ensures
 
 pub sets_held-f-requires : goal.sets_held-f-requires
-sets_held-f-requires t c =
-    (
-      omega (arith, some_tree c.requires),
-      filling_tree c.requires c.cell_at-c.result c.cell_at-c.ensures (omega (arith, c.if-c-lt8.false)),
-    )
+sets_held-f-requires t c = (
+  omega (arith, some_tree c.requires),
+  filling_tree c.requires c.cell_at-c.result c.cell_at-c.ensures (omega (arith, c.if-c-lt8.false)),
+)
 
 pub sets_held-e-requires : goal.sets_held-e-requires
 sets_held-e-requires t c =

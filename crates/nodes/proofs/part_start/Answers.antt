@@ -1,6 +1,6 @@
 -- `nodes::part_start` meets its contract: from where the loop stands, with what is left to pass, the way back leads to the same place.
-use mathlib.Core.Path.{◌≡◌, refl, sym, ap, ◌∙◌}
-use Prim.Native.Nat.{◌+◌, ◌*◌, ◌-◌, ◌≤◌}
+use mathlib.Core.Path.{refl, sym, ap, ◌∙◌}
+use Prim.Native.Nat.{◌+◌, ◌-◌}
 use native.Mathlib.Omega.{arith}
 use Rattle.algebra.specs.Nodes.{parts, back}
 use Rattle.algebra.proofs.Nodes.{back_none, back_more, back_zero}

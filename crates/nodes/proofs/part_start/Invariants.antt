@@ -1,10 +1,8 @@
 -- `nodes::part_start` meets its contract: from where the loop stands, with what is left to pass, the way back leads to the same place.
-use mathlib.Core.Path.{◌≡◌, refl, sym, ap, ◌∙◌}
+use mathlib.Core.Path.{◌≡◌}
 use Prim.Native.Nat.{◌+◌, ◌*◌, ◌-◌, ◌≤◌}
-use native.Mathlib.Omega.{arith}
-use Rattle.algebra.specs.Nodes.{parts, back}
-use Rattle.algebra.proofs.Nodes.{back_none, back_more, back_zero}
-use Rattle.nodes.specs.Cells.{node_of, label}
+use Rattle.algebra.specs.Nodes.{back}
+use Rattle.nodes.specs.Cells.{label}
 use Rattle.nodes.proofs.part_start.Given as goal
 
 abbrev pub invariant-loop-left : goal.invariant-loop-left

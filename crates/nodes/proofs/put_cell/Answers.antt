@@ -1,6 +1,5 @@
 use native.Mathlib.Omega.{arith}
 use lib.ListN.{length-set}
-use borrow.Author.Rules.{rules}
 use Rattle.nodes.proofs.put_cell.Goals as goal
 
 pub bounds-m-at-2 : goal.bounds-m-at-2

@@ -1,5 +1,4 @@
 use Rattle.state.specs.Standing.{marked_of, placed_of}
-use borrow.Author.Rules.{rules}
 use Rattle.reading.proofs.first_mark.Goals as goal
 
 pub returns : goal.returns

@@ -1,6 +1,5 @@
 use mathlib.Core.Path.{refl}
 use Rattle.state.specs.Standing.{grant_written}
-use borrow.Author.Rules.{rules}
 use Rattle.reading.proofs.put_grant.Goals as goal
 
 pub returns : goal.returns

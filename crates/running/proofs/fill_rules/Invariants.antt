@@ -1,12 +1,10 @@
 -- `running::fill_rules` meets its contract: after k turns the first k rules are there.
-use mathlib.Core.Path.{◌≡◌, refl, ◌∙◌}
+use mathlib.Core.Path.{◌≡◌}
 use Prim.Native.Nat.{ℕ, ◌-◌, ◌≤◌, ◌<◌}
-use native.Mathlib.Omega.{arith}
 use lib.ListN.{length, get_or}
 use Rattle.algebra.specs.Stored.{no_rule}
 use Rattle.plans.specs.Stored.{rule_in}
 use borrow.Author.Rules.{rules}
-use Rattle.running.proofs.Packed.{one_packed}
 use Rattle.running.proofs.fill_rules.Given as goal
 
 abbrev pub invariant-loop-k : goal.invariant-loop-k

@@ -7,7 +7,6 @@ use Rattle.algebra.specs.Sort.{subject, object, action}
 use Rattle.algebra.specs.Order.{Ordered}
 use Rattle.algebra.specs.StoredFrame.{parents_of}
 use Rattle.running.proofs.Frames.{listed_as}
-use borrow.Author.Rules.{rules}
 use Rattle.running.proofs.fill_table.Goals as goal
 
 pub tables-requires : goal.tables-requires

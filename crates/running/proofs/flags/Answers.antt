@@ -1,8 +1,8 @@
 -- `running::flags` meets its contract: the first i flags are those of the tags.
-use mathlib.Core.Path.{◌≡◌, refl, ◌∙◌}
-use Prim.Native.Nat.{ℕ, ◌+◌, ◌-◌, ◌≤◌, ◌<◌}
+use mathlib.Core.Path.{refl, ◌∙◌}
+use Prim.Native.Nat.{◌-◌}
 use native.Mathlib.Omega.{arith}
-use lib.ListN.{length, get_or, length-set}
+use lib.ListN.{length-set}
 use Rattle.running.proofs.Frames.{one_more}
 use Rattle.running.proofs.flags.Goals as goal
 

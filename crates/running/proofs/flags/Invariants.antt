@@ -1,9 +1,7 @@
 -- `running::flags` meets its contract: the first i flags are those of the tags.
-use mathlib.Core.Path.{◌≡◌, refl, ◌∙◌}
+use mathlib.Core.Path.{◌≡◌}
 use Prim.Native.Nat.{ℕ, ◌+◌, ◌-◌, ◌≤◌, ◌<◌}
-use native.Mathlib.Omega.{arith}
-use lib.ListN.{length, get_or, length-set}
-use Rattle.running.proofs.Frames.{one_more}
+use lib.ListN.{length, get_or}
 use Rattle.running.proofs.flags.Given as goal
 
 abbrev pub invariant-loop-i : goal.invariant-loop-i

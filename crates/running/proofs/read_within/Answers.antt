@@ -1,7 +1,6 @@
 use mathlib.Core.Path.{sym, subst}
 use Rattle.reading.specs.Reading.{ReadAs}
 use Rattle.running.proofs.Lent.{lent_part, lent_cleared}
-use borrow.Author.Rules.{rules}
 use Rattle.running.proofs.read_within.Goals as goal
 
 pub returns : goal.returns

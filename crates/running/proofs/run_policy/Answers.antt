@@ -2,7 +2,6 @@
 use mathlib.Core.Path.{refl}
 use native.Mathlib.Omega.{arith}
 use Rattle.running.proofs.Whole.{policy_in, can_fill, is_sized, is_ready, is_composed}
-use borrow.Author.Rules.{rules}
 use Rattle.running.proofs.run_policy.Goals as goal
 
 pub fill_table-requires : goal.fill_table-requires

@@ -1,8 +1,7 @@
 -- `scopes::entry` meets its contract: the index is below the tables' length.
 use mathlib.Core.Path.{ap₂}
 use Prim.Native.Nat.{◌+◌, ◌*◌}
-use lib.ListN.{length, get_or}
-use borrow.Author.Rules.{rules}
+use lib.ListN.{get_or}
 use Rattle.scopes.proofs.entry.Goals as goal
 
 pub returns : goal.returns

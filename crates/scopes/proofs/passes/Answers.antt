@@ -1,6 +1,5 @@
 -- `scopes::passes` meets its contract: each kind by its own law.
 use Rattle.scopes.proofs.Scopes.{passes_le, passes_ge, passes_lt, passes_gt, passes_eq, passes_mark}
-use borrow.Author.Rules.{rules}
 use native.Mathlib.Omega.{arith}
 use Rattle.scopes.proofs.passes.Goals as goal
 

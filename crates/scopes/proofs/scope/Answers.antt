@@ -1,12 +1,11 @@
 -- `scopes::scope` meets its contract. Each loop's memory is what its turns so far make of the memory at the loop's start.
-use mathlib.Core.Path.{◌≡◌, refl, sym, ◌∙◌}
-use Prim.Native.Nat.{◌-◌, ◌≤◌}
-use lib.ListN.{length, length-set}
+use mathlib.Core.Path.{refl, sym, ◌∙◌}
+use lib.ListN.{length-set}
 use Rattle.algebra.specs.Policy.{number, in_scope}
 use Rattle.algebra.specs.Stored.{stored_sort}
 use Rattle.scopes.specs.Scopes.{stored_scope}
-use Rattle.scopes.proofs.Turns.{turns, turns_more, turns_done}
-use Rattle.scopes.proofs.Scopes.{member_small, member_lt, part_member, keep_turn, by_action, by_object, by_subject, Each, walked}
+use Rattle.scopes.proofs.Turns.{turns_more, turns_done}
+use Rattle.scopes.proofs.Scopes.{member_small, member_lt, part_member, keep_turn, by_action, by_object, by_subject, walked}
 use native.Mathlib.Omega.{arith}
 use Rattle.scopes.proofs.scope.Goals as goal
 
@@ -21,12 +20,16 @@ actions-init c = (omega arith, refl, λ fr st nm. refl)
 
 pub passes-inside-requires : goal.passes-inside-requires
 passes-inside-requires c =
-    let a = c.args in record { t_len = c.requires.room.2; coded = c.requires.coded; m_bound = omega (
-          arith,
-          member_small (stored_sort a.c.sort) a.z _ _ _ c.requires.room.1 c.subjects-test.true c.objects-test.true
-              c.actions-test.true,
-          c.member-m.ensures,
-        ) }
+    let a = c.args in record {
+      t_len = c.requires.room.2;
+      coded = c.requires.coded;
+      m_bound = omega (
+        arith,
+        member_small (stored_sort a.c.sort) a.z _ _ _ c.requires.room.1 c.subjects-test.true c.objects-test.true
+            c.actions-test.true,
+        c.member-m.ensures,
+      );
+    }
 
 pub overflow_add-b : goal.overflow_add-b
 overflow_add-b c =

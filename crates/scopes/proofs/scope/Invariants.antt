@@ -1,13 +1,9 @@
 -- `scopes::scope` meets its contract. Each loop's memory is what its turns so far make of the memory at the loop's start.
-use mathlib.Core.Path.{◌≡◌, refl, sym, ◌∙◌}
-use Prim.Native.Nat.{◌-◌, ◌≤◌}
-use lib.ListN.{length, length-set}
-use Rattle.algebra.specs.Policy.{number, in_scope}
-use Rattle.algebra.specs.Stored.{stored_sort}
-use Rattle.scopes.specs.Scopes.{stored_scope}
-use Rattle.scopes.proofs.Turns.{turns, turns_more, turns_done}
-use Rattle.scopes.proofs.Scopes.{member_small, member_lt, part_member, keep_turn, by_action, by_object, by_subject, Each, walked}
-use native.Mathlib.Omega.{arith}
+use mathlib.Core.Path.{◌≡◌}
+use Prim.Native.Nat.{◌≤◌}
+use lib.ListN.{length}
+use Rattle.scopes.proofs.Turns.{turns}
+use Rattle.scopes.proofs.Scopes.{by_action, by_object, by_subject, Each}
 use Rattle.scopes.proofs.scope.Given as goal
 
 abbrev pub invariant-actions : goal.invariant-actions

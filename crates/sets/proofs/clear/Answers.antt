@@ -2,7 +2,6 @@
 use mathlib.Core.Path.{◌∙◌}
 use Rattle.algebra.specs.Bytes.{cleared}
 use Rattle.sets.proofs.Bytes.{put_same}
-use borrow.Author.Rules.{rules}
 use Rattle.sets.proofs.clear.Goals as goal
 
 pub returns : goal.returns

@@ -1,10 +1,8 @@
 -- `sets::combine` meets its contract: after x turns x answers of set k are joined with those above.
-use mathlib.Core.Path.{◌≡◌, refl, ap₂, ◌∙◌}
-use Prim.Native.Nat.{◌+◌, ◌-◌, ◌≤◌}
-use lib.ListN.{length, set, length-set}
+use mathlib.Core.Path.{refl, ap₂, ◌∙◌}
+use lib.ListN.{length-set}
 use Rattle.algebra.specs.Answer.{byte, answer_of, joined}
 use Rattle.algebra.specs.Stored.{stored_joiner}
-use Rattle.sets.specs.Sets.{put_set, Answers}
 use Rattle.sets.proofs.Sets.{put_set_none, put_set_more, put_set_done, operated, reads_first, reads_second}
 use native.Mathlib.Omega.{arith}
 use Rattle.sets.proofs.combine.Goals as goal

@@ -1,9 +1,7 @@
 -- `sets::copy` meets its contract: after x turns x bytes are copied.
-use mathlib.Core.Path.{◌≡◌, refl, sym, ap, ◌∙◌}
-use Prim.Native.Nat.{◌-◌, ◌≤◌}
+use mathlib.Core.Path.{refl, sym, ap, ◌∙◌}
 use native.Mathlib.Nat.{zero-add}
-use lib.ListN.{length, get_or, set, length-set}
-use Rattle.algebra.specs.Lists.{tab}
+use lib.ListN.{get_or, set, length-set}
 use Rattle.sets.specs.Bytes.{put}
 use Rattle.sets.proofs.Bytes.{put_none, put_more, put_done, take_tab, written_put}
 use native.Mathlib.Omega.{arith}

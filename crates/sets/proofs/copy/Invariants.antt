@@ -1,12 +1,9 @@
 -- `sets::copy` meets its contract: after x turns x bytes are copied.
-use mathlib.Core.Path.{◌≡◌, refl, sym, ap, ◌∙◌}
-use Prim.Native.Nat.{◌-◌, ◌≤◌}
-use native.Mathlib.Nat.{zero-add}
-use lib.ListN.{length, get_or, set, length-set}
+use mathlib.Core.Path.{◌≡◌}
+use Prim.Native.Nat.{◌≤◌}
+use lib.ListN.{length, get_or}
 use Rattle.algebra.specs.Lists.{tab}
 use Rattle.sets.specs.Bytes.{put}
-use Rattle.sets.proofs.Bytes.{put_none, put_more, put_done, take_tab, written_put}
-use native.Mathlib.Omega.{arith}
 use Rattle.sets.proofs.copy.Given as goal
 
 abbrev pub invariant-loop-x : goal.invariant-loop-x

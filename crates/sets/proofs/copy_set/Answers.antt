@@ -1,9 +1,7 @@
 -- `sets::copy_set` meets its contract: after x turns x bytes of set j stand in set k.
-use mathlib.Core.Path.{◌≡◌, refl, ◌∙◌}
-use Prim.Native.Nat.{◌*◌, ◌-◌, ◌≤◌}
-use lib.ListN.{length, length-set}
-use Rattle.algebra.specs.Lists.{tab}
-use Rattle.sets.specs.Bytes.{put}
+use mathlib.Core.Path.{refl, ◌∙◌}
+use Prim.Native.Nat.{◌*◌}
+use lib.ListN.{length-set}
 use Rattle.sets.specs.Sets.{byte_at}
 use Rattle.sets.proofs.Bytes.{put_none, put_more, put_done}
 use Rattle.sets.proofs.Sets.{reads_copied}

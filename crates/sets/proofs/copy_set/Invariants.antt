@@ -1,13 +1,10 @@
 -- `sets::copy_set` meets its contract: after x turns x bytes of set j stand in set k.
-use mathlib.Core.Path.{◌≡◌, refl, ◌∙◌}
-use Prim.Native.Nat.{◌*◌, ◌-◌, ◌≤◌}
-use lib.ListN.{length, length-set}
+use mathlib.Core.Path.{◌≡◌}
+use Prim.Native.Nat.{◌*◌, ◌≤◌}
+use lib.ListN.{length}
 use Rattle.algebra.specs.Lists.{tab}
 use Rattle.sets.specs.Bytes.{put}
 use Rattle.sets.specs.Sets.{byte_at}
-use Rattle.sets.proofs.Bytes.{put_none, put_more, put_done}
-use Rattle.sets.proofs.Sets.{reads_copied}
-use native.Mathlib.Omega.{arith}
 use Rattle.sets.proofs.copy_set.Given as goal
 
 abbrev pub invariant-loop-x : goal.invariant-loop-x

@@ -1,7 +1,6 @@
 -- `sets::count` meets its contract: after x turns the bytes before x are counted.
-use mathlib.Core.Path.{◌≡◌, refl, sym, ap, ◌∙◌}
-use mathlib.Core.Logic.{⊎_elim}
-use Prim.Native.Nat.{◌+◌, ◌-◌, ◌≤◌}
+use mathlib.Core.Path.{refl, sym, ap, ◌∙◌}
+use Prim.Native.Nat.{◌+◌}
 use native.Mathlib.Nat.{le_antisymm}
 use lib.ListN.{take, length-take}
 use Rattle.algebra.specs.Bytes.{tally}
@@ -26,7 +25,7 @@ loop-x-preserved c =
     let l = c.loop-x in (
       omega arith,
       elim c.if-s-x.branch [
-        then-s-x w ↦ w.found-is ∙ ap (λ m. m + 1) l.invariant.1 ∙ sym (tally_hit a.b l.x a.s.now (omega arith) w.if-s-x.true)
+        | then-s-x w ↦ w.found-is ∙ ap (λ m. m + 1) l.invariant.1 ∙ sym (tally_hit a.b l.x a.s.now (omega arith) w.if-s-x.true)
         | else-s-x w ↦ w.found-is ∙ l.invariant.1 ∙ sym (tally_miss a.b l.x a.s.now (omega arith) w.if-s-x.false)
       ],
     )

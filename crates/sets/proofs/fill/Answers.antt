@@ -1,9 +1,6 @@
 -- `sets::fill` meets its contract: after x turns x bytes are b.
-use mathlib.Core.Path.{◌≡◌, refl, ◌∙◌}
-use Prim.Native.Nat.{◌-◌, ◌≤◌}
-use lib.ListN.{length, length-set}
-use Rattle.algebra.specs.Lists.{tab}
-use Rattle.sets.specs.Bytes.{put}
+use mathlib.Core.Path.{refl, ◌∙◌}
+use lib.ListN.{length-set}
 use Rattle.sets.proofs.Bytes.{put_none, put_more, put_done}
 use native.Mathlib.Omega.{arith}
 use Rattle.sets.proofs.fill.Goals as goal

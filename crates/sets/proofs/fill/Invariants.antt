@@ -1,11 +1,9 @@
 -- `sets::fill` meets its contract: after x turns x bytes are b.
-use mathlib.Core.Path.{◌≡◌, refl, ◌∙◌}
-use Prim.Native.Nat.{◌-◌, ◌≤◌}
-use lib.ListN.{length, length-set}
+use mathlib.Core.Path.{◌≡◌}
+use Prim.Native.Nat.{◌≤◌}
+use lib.ListN.{length}
 use Rattle.algebra.specs.Lists.{tab}
 use Rattle.sets.specs.Bytes.{put}
-use Rattle.sets.proofs.Bytes.{put_none, put_more, put_done}
-use native.Mathlib.Omega.{arith}
 use Rattle.sets.proofs.fill.Given as goal
 
 abbrev pub invariant-loop-x : goal.invariant-loop-x

@@ -1,6 +1,5 @@
 -- `sets::fill_away` meets its contract.
 use Rattle.sets.specs.Sets.{put_set}
-use borrow.Author.Rules.{rules}
 use Rattle.sets.proofs.fill_away.Goals as goal
 
 pub returns : goal.returns

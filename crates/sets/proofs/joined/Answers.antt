@@ -1,8 +1,6 @@
 -- `sets::joined` meets its contract.
 use mathlib.Core.Path.{◌∙◌}
 use Rattle.sets.proofs.Sets.{joined_plus, joined_both, joined_minus}
-use borrow.Author.Rules.{rules}
-use native.Mathlib.Omega.{arith}
 use Rattle.sets.proofs.joined.Goals as goal
 
 pub returns-then-op-eq0 : goal.returns-then-op-eq0

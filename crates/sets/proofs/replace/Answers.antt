@@ -1,8 +1,6 @@
 -- `sets::replace` meets its contract: after x turns x answers of set k are replaced.
-use mathlib.Core.Path.{◌≡◌, refl, ◌∙◌}
-use Prim.Native.Nat.{◌+◌, ◌-◌, ◌≤◌}
-use lib.ListN.{length, set, length-set}
-use Rattle.sets.specs.Sets.{put_set, Answers}
+use mathlib.Core.Path.{refl, ◌∙◌}
+use lib.ListN.{length-set}
 use Rattle.sets.proofs.Sets.{overridden_of, put_set_none, put_set_more, put_set_done, threefold, reads_first, reads_second, reads_third}
 use native.Mathlib.Omega.{arith}
 use Rattle.sets.proofs.replace.Goals as goal

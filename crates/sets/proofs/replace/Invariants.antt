@@ -1,10 +1,9 @@
 -- `sets::replace` meets its contract: after x turns x answers of set k are replaced.
-use mathlib.Core.Path.{◌≡◌, refl, ◌∙◌}
-use Prim.Native.Nat.{◌+◌, ◌-◌, ◌≤◌}
-use lib.ListN.{length, set, length-set}
+use mathlib.Core.Path.{◌≡◌}
+use Prim.Native.Nat.{◌+◌, ◌≤◌}
+use lib.ListN.{length}
 use Rattle.sets.specs.Sets.{put_set, Answers}
-use Rattle.sets.proofs.Sets.{overridden_of, put_set_none, put_set_more, put_set_done, threefold, reads_first, reads_second, reads_third}
-use native.Mathlib.Omega.{arith}
+use Rattle.sets.proofs.Sets.{threefold}
 use Rattle.sets.proofs.replace.Given as goal
 
 abbrev pub invariant-loop-x : goal.invariant-loop-x

@@ -1,7 +1,6 @@
 use mathlib.Core.Path.{sym, ap}
 use Rattle.grammar.specs.Lookup.{found}
 use Rattle.names.specs.Entries.{found_of}
-use borrow.Author.Rules.{rules}
 use Rattle.state.proofs.is_there.Goals as goal
 
 pub returns-in-At : goal.returns-in-At

@@ -7,7 +7,6 @@ use Rattle.state.proofs.Found.{found_lt}
 use Rattle.state.proofs.Lines.{member_small}
 use Rattle.state.proofs.MemberLines.{child_barred, parent_missing, child_joins}
 use Rattle.state.specs.Judged.{LineJoins}
-use borrow.Author.Rules.{rules}
 use Rattle.state.proofs.judge_child.Goals as goal
 
 pub returns-then-k-ne0 : goal.returns-then-k-ne0

@@ -1,7 +1,5 @@
-use mathlib.Core.Path.{◌≡◌, sym, ap, ◌∙◌}
-use Prim.Native.Nat.{◌*◌, ◌≤◌, ◌<◌}
+use mathlib.Core.Path.{sym, ap, ◌∙◌}
 use native.Mathlib.Omega.{arith}
-use borrow.Author.Rules.{rules}
 use Rattle.algebra.specs.Stored.{stored_sort}
 use Rattle.names.specs.Entries.{found_of}
 use Rattle.state.proofs.Found.{found_lt, few_accesses, access_few, tag_at}

@@ -2,7 +2,6 @@ use mathlib.Core.Path.{subst}
 use Rattle.lines.specs.Parsed.{LineWithin}
 use Rattle.state.specs.Judged.{LineJoins}
 use Rattle.state.proofs.MemberLines.{joins_as, no_member}
-use borrow.Author.Rules.{rules}
 use Rattle.state.proofs.judge_joining.Goals as goal
 
 pub judge_root-requires : goal.judge_root-requires

@@ -1,8 +1,7 @@
-use mathlib.Core.Path.{◌≡◌, sym, ap, ◌∙◌}
+use mathlib.Core.Path.{sym, ap, ◌∙◌}
 use native.Mathlib.Omega.{arith}
 use Rattle.names.specs.Entries.{found_of}
 use Rattle.state.proofs.Names.{member_4, member_7, member_5, member_good}
-use borrow.Author.Rules.{rules}
 use Rattle.state.proofs.judge_member.Goals as goal
 
 pub returns-then-late : goal.returns-then-late

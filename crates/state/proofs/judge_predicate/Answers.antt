@@ -1,7 +1,6 @@
-use mathlib.Core.Path.{◌≡◌, sym, ap, ◌∙◌}
+use mathlib.Core.Path.{sym, ap, ◌∙◌}
 use Rattle.names.specs.Entries.{found_of}
 use Rattle.state.proofs.Names.{predicate_4, predicate_8, predicate_7, known_6, known_good, fresh_6, fresh_good}
-use borrow.Author.Rules.{rules}
 use Rattle.state.proofs.judge_predicate.Goals as goal
 
 pub returns-then-late : goal.returns-then-late

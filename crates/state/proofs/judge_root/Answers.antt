@@ -1,6 +1,5 @@
 use Rattle.state.proofs.MemberLines.{root_barred, root_joins}
 use Rattle.state.specs.Judged.{LineJoins}
-use borrow.Author.Rules.{rules}
 use Rattle.state.proofs.judge_root.Goals as goal
 
 pub returns-then-k-ne0 : goal.returns-then-k-ne0

@@ -1,8 +1,6 @@
-use mathlib.Core.Path.{refl, sym, ap, subst, ◌∙◌}
+use mathlib.Core.Path.{refl, ap, ◌∙◌}
 use Rattle.grammar.specs.Lookup.{found}
-use Rattle.state.specs.Judged.{TableJudged}
 use Rattle.state.proofs.Names.{table_first}
-use borrow.Author.Rules.{rules}
 use Rattle.state.proofs.judge_table.Goals as goal
 
 pub returns : goal.returns

@@ -1,7 +1,6 @@
 use native.Mathlib.Omega.{arith}
 use Rattle.algebra.specs.Stored.{stored_sort}
 use Rattle.state.proofs.Lines.{base_low}
-use borrow.Author.Rules.{rules}
 use Rattle.state.proofs.member_entry.Goals as goal
 
 pub overflow_add-result : goal.overflow_add-result

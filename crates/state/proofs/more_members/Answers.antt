@@ -1,6 +1,4 @@
-use mathlib.Core.Path.{refl}
 use Rattle.state.proofs.Lines.{more_subject, more_object, more_action}
-use borrow.Author.Rules.{rules}
 use Rattle.state.proofs.more_members.Goals as goal
 
 pub returns-then-s-eq0 : goal.returns-then-s-eq0

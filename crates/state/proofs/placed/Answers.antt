@@ -1,6 +1,5 @@
 use mathlib.Core.Path.{refl}
 use Rattle.state.specs.Standing.{placed_of}
-use borrow.Author.Rules.{rules}
 use Rattle.state.proofs.placed.Goals as goal
 
 pub returns : goal.returns

@@ -1,8 +1,6 @@
-use mathlib.Core.Path.{◌≡◌, refl, sym, ap, ◌∙◌}
-use native.Mathlib.Omega.{arith}
+use mathlib.Core.Path.{refl, sym}
 use Rattle.state.specs.Judged.{line_refused}
 use Rattle.state.proofs.Lines.{names_stand, table_no, table_yes, table_line_as}
-use borrow.Author.Rules.{rules}
 use Rattle.state.proofs.table_line.Goals as goal
 
 pub returns-then-k-ne0 : goal.returns-then-k-ne0

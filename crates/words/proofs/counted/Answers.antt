@@ -1,6 +1,5 @@
 use Rattle.words.specs.Cells.{counted_to}
 use borrow.Author.Tests.{lt-ltb, le-ltb}
-use borrow.Author.Rules.{rules}
 use Rattle.words.proofs.counted.Goals as goal
 
 pub returns-then-n-most : goal.returns-then-n-most

@@ -1,5 +1,4 @@
 use Rattle.words.proofs.Puts.{place_old, place_new}
-use borrow.Author.Rules.{rules}
 use Rattle.words.proofs.first_place.Goals as goal
 
 pub returns-in-At : goal.returns-in-At

@@ -1,6 +1,5 @@
 use Prim.Native.Nat.{◌+◌}
 use lib.ListN.{get_or}
-use borrow.Author.Rules.{rules}
 use Rattle.words.proofs.Bound.{no_binding, a_binding}
 use Rattle.words.proofs.is_binding.Goals as goal
 

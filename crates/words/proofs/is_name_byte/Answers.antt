@@ -3,7 +3,6 @@ use mathlib.Core.Bool.{true, false}
 use mathlib.Core.Path.{◌≡◌}
 use borrow.Author.Tests.{ne_eqb, le-leb, lt-leb}
 use Rattle.grammar.specs.Name.{is_letter_lem, is_name_byte_lem}
-use borrow.Author.Rules.{rules}
 use Rattle.words.proofs.is_name_byte.Goals as goal
 
 pub returns-then-is_letter : goal.returns-then-is_letter

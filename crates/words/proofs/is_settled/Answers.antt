@@ -1,5 +1,4 @@
 use borrow.Author.Tests.{lt-leb, le-leb}
-use borrow.Author.Rules.{rules}
 use Rattle.words.proofs.is_settled.Goals as goal
 
 pub returns-then-used-lt193 : goal.returns-then-used-lt193

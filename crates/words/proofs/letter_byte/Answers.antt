@@ -1,8 +1,4 @@
 use mathlib.Core.Path.{sym, ◌∙◌}
-use borrow.Author.Tests.{eq-eqb}
-use borrow.Author.Rules.{rules}
-use Rattle.grammar.specs.Name.{letter_byte_lem}
-use Rattle.words.specs.Contract.{letter_code}
 use Rattle.words.proofs.Words.{letter_of_t, letter_of_sort}
 use Rattle.words.proofs.letter_byte.Goals as goal
 

@@ -1,5 +1,4 @@
 use Rattle.words.proofs.Scopes.{byte_is, byte_isnt, m_none, m_in, m_bad, m_open, m_after, m_close}
-use borrow.Author.Rules.{rules}
 use native.Mathlib.Omega.{arith}
 use Rattle.words.proofs.member_scope.Goals as goal
 

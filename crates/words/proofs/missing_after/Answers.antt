@@ -1,6 +1,5 @@
 use mathlib.Core.Path.{◌∙◌}
 use Rattle.words.specs.Cells.{place_after}
-use borrow.Author.Rules.{rules}
 use Rattle.words.proofs.missing_after.Goals as goal
 
 pub returns-in-At : goal.returns-in-At

@@ -1,5 +1,4 @@
 use Rattle.grammar.specs.Lookup.{place}
-use borrow.Author.Rules.{rules}
 use Rattle.words.proofs.number_of.Goals as goal
 
 pub returns-in-At : goal.returns-in-At

@@ -1,7 +1,6 @@
 use Rattle.words.specs.Cells.{operators_after_lem}
 use borrow.Author.Tests.{eq-eqb, ne_eqb}
 use mathlib.Core.Path.{◌∙◌}
-use borrow.Author.Rules.{rules}
 use Rattle.words.proofs.operators_after.Goals as goal
 
 pub returns-then-kind-eq0 : goal.returns-then-kind-eq0

@@ -1,6 +1,5 @@
 use mathlib.Core.Path.{sym}
 use lib.ListN.{get_or-eq_default}
-use borrow.Author.Rules.{rules}
 use Rattle.words.proofs.peek.Goals as goal
 
 pub returns-else-at-t : goal.returns-else-at-t

@@ -1,6 +1,5 @@
 use native.Mathlib.Omega.{arith}
 use Rattle.words.proofs.Puts.{put_stored, full_stored}
-use borrow.Author.Rules.{rules}
 use Rattle.words.proofs.put.Goals as goal
 
 pub put_cell-requires : goal.put_cell-requires

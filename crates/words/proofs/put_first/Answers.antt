@@ -1,9 +1,7 @@
-use mathlib.Core.Path.{◌≡◌, refl, sym, ◌∙◌}
-use Prim.Native.Nat.{ℕ, ◌+◌, ◌-◌, ◌≤◌, ◌<◌}
+use mathlib.Core.Path.{refl}
+use Prim.Native.Nat.{◌-◌}
 use native.Mathlib.Omega.{arith}
-use lib.ListN.{length, get_or}
-use borrow.Author.Rules.{rules}
-use Rattle.words.proofs.Bound.{Moved, move_next, moved_all}
+use Rattle.words.proofs.Bound.{move_next, moved_all}
 use Rattle.words.proofs.put_first.Goals as goal
 
 pub loop-i-init : goal.loop-i-init

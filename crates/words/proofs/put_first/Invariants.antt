@@ -1,9 +1,5 @@
-use mathlib.Core.Path.{◌≡◌, refl, sym, ◌∙◌}
-use Prim.Native.Nat.{ℕ, ◌+◌, ◌-◌, ◌≤◌, ◌<◌}
-use native.Mathlib.Omega.{arith}
-use lib.ListN.{length, get_or}
-use borrow.Author.Rules.{rules}
-use Rattle.words.proofs.Bound.{Moved, move_next, moved_all}
+use Prim.Native.Nat.{◌-◌, ◌≤◌}
+use Rattle.words.proofs.Bound.{Moved}
 use Rattle.words.proofs.put_first.Given as goal
 
 abbrev pub invariant-loop-i : goal.invariant-loop-i

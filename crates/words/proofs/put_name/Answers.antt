@@ -1,6 +1,5 @@
 use mathlib.Core.Path.{sym, ◌∙◌}
 use Rattle.words.proofs.Puts.{settled_named, named_stored}
-use borrow.Author.Rules.{rules}
 use Rattle.words.proofs.put_name.Goals as goal
 
 pub put-requires : goal.put-requires

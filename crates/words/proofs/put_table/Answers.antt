@@ -1,6 +1,5 @@
 use mathlib.Core.Path.{sym, ap, ◌∙◌}
 use native.Mathlib.Omega.{arith}
-use borrow.Author.Rules.{rules}
 use Rattle.name_index.specs.Parts.{found_of}
 use Rattle.words.proofs.Bound.{settled_table, bound_table, free_table, table_fits}
 use Rattle.words.proofs.put_table.Goals as goal

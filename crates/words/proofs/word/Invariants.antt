@@ -1,10 +1,6 @@
-use Rattle.words.proofs.Words.{seen, tested, Growing, w_in, w_none, w_first, w_full, w_stop, w_more, w_end}
-use Rattle.grammar.specs.Name.{is_letter_lem}
-use borrow.Author.Tests.{not-true, not-false}
+use Rattle.words.proofs.Words.{Growing}
 use lib.ListN.{length}
 use Prim.Native.Nat.{◌-◌}
-use borrow.Author.Rules.{rules}
-use native.Mathlib.Omega.{arith}
 use Rattle.words.proofs.word.Given as goal
 
 abbrev pub invariant-loop-i : goal.invariant-loop-i

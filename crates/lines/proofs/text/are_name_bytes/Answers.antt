@@ -1,11 +1,7 @@
-use borrow.Author.Rules.{rules}
 use native.Mathlib.Omega.{arith}
-use borrow.Author.Tests.{not-true, not-false}
 use Rattle.lines.proofs.Parts.{name_run, name_stop, name_end}
-use Rattle.grammar.specs.Name.{are_name_bytes_lem}
-use lib.Seq.{slice}
 use mathlib.Core.Path.{◌≡◌, refl, sym, ◌∙◌}
-use Prim.Native.Nat.{◌-◌, ◌≤◌}
+use Prim.Native.Nat.{◌-◌}
 use Rattle.lines.proofs.text.are_name_bytes.Goals as goal
 
 pub loop-i-init : goal.loop-i-init

@@ -1,10 +1,6 @@
-use borrow.Author.Rules.{rules}
-use native.Mathlib.Omega.{arith}
-use borrow.Author.Tests.{not-true, not-false}
-use Rattle.lines.proofs.Parts.{name_run, name_stop, name_end}
 use Rattle.grammar.specs.Name.{are_name_bytes_lem}
 use lib.Seq.{slice}
-use mathlib.Core.Path.{◌≡◌, refl, sym, ◌∙◌}
+use mathlib.Core.Path.{◌≡◌}
 use Prim.Native.Nat.{◌-◌, ◌≤◌}
 use Rattle.lines.proofs.text.are_name_bytes.Given as goal
 

@@ -1,4 +1,3 @@
-use borrow.Author.Rules.{rules}
 use native.Mathlib.Omega.{arith}
 use Rattle.reader.specs.File.{is_file_lem}
 use borrow.Author.Tests.{lt-leb, le-leb}

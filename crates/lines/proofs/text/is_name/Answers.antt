@@ -1,6 +1,4 @@
-use borrow.Author.Rules.{rules}
 use native.Mathlib.Omega.{arith}
-use borrow.Author.Tests.{not-true, not-false}
 use Rattle.lines.proofs.Parts.{part_get_or, empty_no_name, name_first, name_bytes, name_long, name_is}
 use Rattle.grammar.specs.Name.{is_letter_lem}
 use native.Mathlib.Nat.{add-zero}

@@ -1,4 +1,3 @@
-use borrow.Author.Rules.{rules}
 use borrow.Author.Tests.{le-leb, lt-leb, eq-eqb, ne_eqb}
 use mathlib.Core.Bool.{or-true, or-false}
 use mathlib.Core.Path.{sym, ◌∙◌}

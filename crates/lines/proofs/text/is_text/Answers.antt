@@ -1,13 +1,10 @@
-use borrow.Author.Rules.{rules}
 use native.Mathlib.Omega.{arith}
 use native.Mathlib.Nat.{add-zero}
-use Rattle.grammar.specs.Lookup.{same}
 use Rattle.grammar.proofs.Lookup.{same_short}
 use Rattle.lines.proofs.Parts.{word_run, word_stop, word_end}
-use lib.ListN.{length, drop}
 use lib.Seq.{slice, length-slice}
-use mathlib.Core.Path.{◌≡◌, sym, ◌∙◌}
-use Prim.Native.Nat.{◌+◌, ◌-◌, ◌≤◌}
+use mathlib.Core.Path.{sym, ◌∙◌}
+use Prim.Native.Nat.{◌-◌}
 use Rattle.lines.proofs.text.is_text.Goals as goal
 
 pub returns-then-to-from : goal.returns-then-to-from

@@ -1,12 +1,7 @@
-use borrow.Author.Rules.{rules}
-use native.Mathlib.Omega.{arith}
-use native.Mathlib.Nat.{add-zero}
 use Rattle.grammar.specs.Lookup.{same}
-use Rattle.grammar.proofs.Lookup.{same_short}
-use Rattle.lines.proofs.Parts.{word_run, word_stop, word_end}
 use lib.ListN.{length, drop}
-use lib.Seq.{slice, length-slice}
-use mathlib.Core.Path.{◌≡◌, sym, ◌∙◌}
+use lib.Seq.{slice}
+use mathlib.Core.Path.{◌≡◌}
 use Prim.Native.Nat.{◌+◌, ◌-◌, ◌≤◌}
 use Rattle.lines.proofs.text.is_text.Given as goal
 

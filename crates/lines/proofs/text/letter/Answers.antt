@@ -1,4 +1,3 @@
-use borrow.Author.Rules.{rules}
 use native.Mathlib.Omega.{arith}
 use Rattle.lines.proofs.Parts.{letter_one, letter_none}
 use mathlib.Core.Path.{sym}

@@ -1,12 +1,11 @@
-use borrow.Author.Rules.{rules}
 use native.Mathlib.Omega.{arith}
-use Rattle.lines.proofs.Parts.{part_one, part_get_or, valued, numeral, number_empty, number_long, number_zero, number_on, number_nought, digit_run}
+use Rattle.lines.proofs.Parts.{part_one, part_get_or, numeral, number_empty, number_long, number_zero, number_on, number_nought, digit_run}
 use Rattle.lines.proofs.Parts.{digit_low, digit_high, digit_end, few_digits, digit_more}
 use native.Mathlib.Nat.{add-zero}
-use lib.ListN.{length, get_or}
+use lib.ListN.{get_or}
 use lib.Seq.{slice, length-slice}
 use mathlib.Core.Path.{◌≡◌, sym, ◌∙◌}
-use Prim.Native.Nat.{◌+◌, ◌-◌, ◌^◌, ◌≤◌}
+use Prim.Native.Nat.{◌-◌}
 use Rattle.lines.proofs.text.number_at.Goals as goal
 
 pub returns-then-from-to : goal.returns-then-from-to

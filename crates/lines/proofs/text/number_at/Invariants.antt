@@ -1,11 +1,7 @@
-use borrow.Author.Rules.{rules}
-use native.Mathlib.Omega.{arith}
-use Rattle.lines.proofs.Parts.{part_one, part_get_or, valued, numeral, number_empty, number_long, number_zero, number_on, number_nought, digit_run}
-use Rattle.lines.proofs.Parts.{digit_low, digit_high, digit_end, few_digits, digit_more}
-use native.Mathlib.Nat.{add-zero}
-use lib.ListN.{length, get_or}
-use lib.Seq.{slice, length-slice}
-use mathlib.Core.Path.{◌≡◌, sym, ◌∙◌}
+use Rattle.lines.proofs.Parts.{valued, numeral}
+use lib.ListN.{length}
+use lib.Seq.{slice}
+use mathlib.Core.Path.{◌≡◌}
 use Prim.Native.Nat.{◌+◌, ◌-◌, ◌^◌, ◌≤◌}
 use Rattle.lines.proofs.text.number_at.Given as goal
 

@@ -1,10 +1,7 @@
-use borrow.Author.Rules.{rules}
-use native.Mathlib.Omega.{arith}
-use Rattle.lines.proofs.Cuts.{end_hit, end_miss, end_none}
 use Rattle.reader.specs.Text.{before}
 use lib.ListN.{length}
 use lib.Seq.{slice}
-use mathlib.Core.Path.{◌≡◌, refl, sym, ◌∙◌}
+use mathlib.Core.Path.{◌≡◌}
 use Prim.Native.Nat.{◌+◌, ◌-◌, ◌≤◌}
 use Rattle.lines.proofs.text.piece_end.Given as goal
 
