@@ -35,16 +35,20 @@ put_named-requires t c =
 
 pub returns-then-c-eq0 : goal.returns-then-c-eq0
 returns-then-c-eq0 t c =
-    let own = c.cell_at-c in 
-    let put = c.put_named in 
-    let a = c.args in 
-    let s = a.s in 
-    let z = c.requires.sized.0 in 
-    let low = c.requires.sized.1 in 
-    let more = c.requires.in_bounds in 
-    let ready = c.requires.ready in record { few_rounds = λ e lo en. omega arith; all_answered = λ fr st. let size = ready.set ∙ sym (accesses_total fr s.n a.t.now st.stands) in
+    let own = c.cell_at-c in
+    let put = c.put_named in
+    let a = c.args in
+    let s = a.s in
+    let z = c.requires.sized.0 in
+    let low = c.requires.sized.1 in
+    let more = c.requires.in_bounds in
+    let ready = c.requires.ready in
+    record {
+      few_rounds = λ e lo en. omega arith;
+      all_answered = λ fr st. let size = ready.set ∙ sym (accesses_total fr s.n a.t.now st.stands) in
           ran_table a.m.now a.end own.result own.ensures fr s a.b a.k (few_accesses ready) size (sized_set z) low a.w.now put.new.w
-          c.if-c-eq0.true more.0 put.ensures }
+          c.if-c-eq0.true more.0 put.ensures;
+    }
 
 pub part_start-mid-requires : goal.part_start-mid-requires
 part_start-mid-requires t c =
@@ -99,22 +103,26 @@ overflow_add-result t c =
 
 pub returns-then-c-lt4 : goal.returns-then-c-lt4
 returns-then-c-lt4 t c =
-    let own = c.cell_at-c in 
-    let mid = c.part_start-mid in 
-    let one = c.run-a in 
-    let two = c.run-d in 
-    let put = c.combine in 
-    let a = c.args in 
-    let s = a.s in 
-    let z = c.requires.sized.0 in 
-    let low = c.requires.sized.1 in 
-    let more = c.requires.in_bounds in 
-    let ready = c.requires.ready in record { few_rounds = few_two a.m.now a.end own.result own.ensures mid.result one.result two.result c.if-c-eq0.false c.if-c-lt4.true mid.ensures
-          one.ensures.few_rounds two.ensures.few_rounds; all_answered = λ fr st. let size = ready.set ∙ sym (accesses_total fr s.n a.t.now st.stands) in
+    let own = c.cell_at-c in
+    let mid = c.part_start-mid in
+    let one = c.run-a in
+    let two = c.run-d in
+    let put = c.combine in
+    let a = c.args in
+    let s = a.s in
+    let z = c.requires.sized.0 in
+    let low = c.requires.sized.1 in
+    let more = c.requires.in_bounds in
+    let ready = c.requires.ready in
+    record {
+      few_rounds = few_two a.m.now a.end own.result own.ensures mid.result one.result two.result c.if-c-eq0.false c.if-c-lt4.true mid.ensures
+          one.ensures.few_rounds two.ensures.few_rounds;
+      all_answered = λ fr st. let size = ready.set ∙ sym (accesses_total fr s.n a.t.now st.stands) in
           ran_two a.m.now a.end own.result own.ensures fr s a.b a.k (few_accesses ready) size (sized_set z) low mid.result a.w.now
           one.new.w two.new.w put.new.w one.result two.result c.if-c-eq0.false c.if-c-lt4.true
           mid.ensures (omega (arith, more.0, one.auto.w, two.auto.w)) (one.ensures.all_answered fr st) (two.ensures.all_answered fr st)
-          put.ensures }
+          put.ensures;
+    }
 
 pub part_start-third-requires : goal.part_start-third-requires
 part_start-third-requires t c =
@@ -211,25 +219,29 @@ overflow_add-result-then-c-eq4-2 t c =
 
 pub returns-then-c-eq4 : goal.returns-then-c-eq4
 returns-then-c-eq4 t c =
-    let own = c.cell_at-c in 
-    let second = c.part_start-second in 
-    let third = c.part_start-third in 
-    let one = c.run-a-then-c-eq4 in 
-    let two = c.run-d-then-c-eq4 in 
-    let three = c.run-e in 
-    let put = c.replace in 
-    let a = c.args in 
-    let s = a.s in 
-    let z = c.requires.sized.0 in 
-    let low = c.requires.sized.1 in 
-    let more = c.requires.in_bounds in 
-    let ready = c.requires.ready in record { few_rounds = few_three a.m.now a.end own.result own.ensures second.result third.result one.result two.result three.result c.if-c-eq4.true
-          third.ensures second.ensures one.ensures.few_rounds two.ensures.few_rounds three.ensures.few_rounds; all_answered = λ fr st. let size = ready.set ∙ sym (accesses_total fr s.n a.t.now st.stands) in
+    let own = c.cell_at-c in
+    let second = c.part_start-second in
+    let third = c.part_start-third in
+    let one = c.run-a-then-c-eq4 in
+    let two = c.run-d-then-c-eq4 in
+    let three = c.run-e in
+    let put = c.replace in
+    let a = c.args in
+    let s = a.s in
+    let z = c.requires.sized.0 in
+    let low = c.requires.sized.1 in
+    let more = c.requires.in_bounds in
+    let ready = c.requires.ready in
+    record {
+      few_rounds = few_three a.m.now a.end own.result own.ensures second.result third.result one.result two.result three.result c.if-c-eq4.true
+          third.ensures second.ensures one.ensures.few_rounds two.ensures.few_rounds three.ensures.few_rounds;
+      all_answered = λ fr st. let size = ready.set ∙ sym (accesses_total fr s.n a.t.now st.stands) in
           ran_three a.m.now a.end own.result own.ensures fr s a.b a.k (few_accesses ready) size (sized_set z) low second.result
           third.result a.w.now
           one.new.w two.new.w three.new.w put.new.w one.result two.result three.result c.if-c-eq4.true
           third.ensures second.ensures (omega (arith, more.0, one.auto.w, two.auto.w, three.auto.w))
-          (one.ensures.all_answered fr st) (two.ensures.all_answered fr st) (three.ensures.all_answered fr st) put.ensures }
+          (one.ensures.all_answered fr st) (two.ensures.all_answered fr st) (three.ensures.all_answered fr st) put.ensures;
+    }
 
 pub run-a-requires-2 : goal.run-a-requires-2
 run-a-requires-2 t c =
@@ -240,38 +252,50 @@ run-a-requires-2 t c =
 
 pub scope-requires : goal.scope-requires
 scope-requires t c =
-    let own = c.cell_at-c in 
-    let sc = c.scope_of in 
-    let a = c.args in 
-    let s = a.s in 
-    let z = c.requires.sized.0 in 
-    let more = c.requires.in_bounds in 
-    let ready = c.requires.ready in 
-    let five : 5 ≤ own.result.kind = omega (arith, c.if-c-lt4.false, c.if-c-eq4.false) in record { room = ((sized_set z, ready.sized.few, omega (arith, more.0, c.run-a-2.auto.w)), ready.sized, ready.table); coded = scope_coded s.n own.result sc.result (own_fits z own.result own.ensures) five c.if-c-lt7.true sc.ensures ready.sized }
+    let own = c.cell_at-c in
+    let sc = c.scope_of in
+    let a = c.args in
+    let s = a.s in
+    let z = c.requires.sized.0 in
+    let more = c.requires.in_bounds in
+    let ready = c.requires.ready in
+    let five : 5 ≤ own.result.kind = omega (arith, c.if-c-lt4.false, c.if-c-eq4.false) in
+    record {
+      room = ((sized_set z, ready.sized.few, omega (arith, more.0, c.run-a-2.auto.w)), ready.sized, ready.table);
+      coded = scope_coded s.n own.result sc.result (own_fits z own.result own.ensures) five c.if-c-lt7.true sc.ensures ready.sized;
+    }
 
 pub returns-then-c-lt7 : goal.returns-then-c-lt7
 returns-then-c-lt7 t c =
-    let own = c.cell_at-c in 
-    let part = c.run-a-2 in 
-    let sc = c.scope_of in 
-    let put = c.scope in 
-    let a = c.args in 
-    let s = a.s in 
-    let z = c.requires.sized.0 in 
-    let low = c.requires.sized.1 in 
-    let more = c.requires.in_bounds in 
-    let ready = c.requires.ready in 
-    let five : 5 ≤ own.result.kind = omega (arith, c.if-c-lt4.false, c.if-c-eq4.false) in record { few_rounds = few_scope a.m.now a.end own.result own.ensures part.result five c.if-c-lt7.true part.ensures.few_rounds; all_answered = λ fr st. let size = ready.set ∙ sym (accesses_total fr s.n a.t.now st.stands) in
+    let own = c.cell_at-c in
+    let part = c.run-a-2 in
+    let sc = c.scope_of in
+    let put = c.scope in
+    let a = c.args in
+    let s = a.s in
+    let z = c.requires.sized.0 in
+    let low = c.requires.sized.1 in
+    let more = c.requires.in_bounds in
+    let ready = c.requires.ready in
+    let five : 5 ≤ own.result.kind = omega (arith, c.if-c-lt4.false, c.if-c-eq4.false) in
+    record {
+      few_rounds = few_scope a.m.now a.end own.result own.ensures part.result five c.if-c-lt7.true part.ensures.few_rounds;
+      all_answered = λ fr st. let size = ready.set ∙ sym (accesses_total fr s.n a.t.now st.stands) in
           ran_scope a.m.now a.end own.result own.ensures fr s a.b a.k (few_accesses ready) size (sized_set z) low a.w.now part.new.w
           part.result (omega (arith, more.0, part.auto.w)) (part.ensures.all_answered fr st) s.n a.t.now
           sc.result put.new.w (own_fits z own.result own.ensures) five c.if-c-lt7.true st.stands sc.ensures
-          (put.ensures fr st.stands) }
+          (put.ensures fr st.stands);
+    }
 
 pub close_set-used-requires : goal.close_set-used-requires
 close_set-used-requires t c =
-    let z = c.requires.sized.0 in 
-    let more = c.requires.in_bounds in 
-    let ready = c.requires.ready in record { room = ((sized_set z, few_accesses ready, omega (arith, more.0, c.run-a-2.auto.w)), more.1); ready = ready }
+    let z = c.requires.sized.0 in
+    let more = c.requires.in_bounds in
+    let ready = c.requires.ready in
+    record {
+      room = ((sized_set z, few_accesses ready, omega (arith, more.0, c.run-a-2.auto.w)), more.1);
+      ready = ready;
+    }
 
 pub overflow_add-result-then-c-lt8 : goal.overflow_add-result-then-c-lt8
 overflow_add-result-then-c-lt8 t c =
@@ -283,20 +307,24 @@ overflow_add-result-then-c-lt8 t c =
 
 pub returns-then-c-lt8 : goal.returns-then-c-lt8
 returns-then-c-lt8 t c =
-    let own = c.cell_at-c in 
-    let part = c.run-a-2 in 
-    let put = c.close_set-used in 
-    let a = c.args in 
-    let s = a.s in 
-    let z = c.requires.sized.0 in 
-    let low = c.requires.sized.1 in 
-    let more = c.requires.in_bounds in 
-    let ready = c.requires.ready in 
-    let seven : 7 ≤ own.result.kind = omega (arith, c.if-c-lt7.false) in record { few_rounds = λ e lo en. let few = few_closure a.m.now a.end own.result own.ensures part.result put.result seven c.if-c-lt8.true in
-          omega (arith, few (omega (arith, put.ensures.0, more.3)) part.ensures.few_rounds e lo en); all_answered = λ fr st. let size = ready.set ∙ sym (accesses_total fr s.n a.t.now st.stands) in
+    let own = c.cell_at-c in
+    let part = c.run-a-2 in
+    let put = c.close_set-used in
+    let a = c.args in
+    let s = a.s in
+    let z = c.requires.sized.0 in
+    let low = c.requires.sized.1 in
+    let more = c.requires.in_bounds in
+    let ready = c.requires.ready in
+    let seven : 7 ≤ own.result.kind = omega (arith, c.if-c-lt7.false) in
+    record {
+      few_rounds = λ e lo en. let few = few_closure a.m.now a.end own.result own.ensures part.result put.result seven c.if-c-lt8.true in
+          omega (arith, few (omega (arith, put.ensures.0, more.3)) part.ensures.few_rounds e lo en);
+      all_answered = λ fr st. let size = ready.set ∙ sym (accesses_total fr s.n a.t.now st.stands) in
           ran_closure a.m.now a.end own.result own.ensures fr s a.b a.k (few_accesses ready) size (sized_set z) low a.w.now
           part.new.w part.result (omega (arith, more.0, part.auto.w)) (part.ensures.all_answered fr st) put.result
-          put.new.w seven c.if-c-lt8.true (put.ensures.1 fr st) }
+          put.new.w seven c.if-c-lt8.true (put.ensures.1 fr st);
+    }
 
 pub part_start-mid-requires-2 : goal.part_start-mid-requires-2
 part_start-mid-requires-2 t c =
@@ -358,20 +386,24 @@ overflow_add-result-2 t c =
 
 pub returns : goal.returns
 returns t c =
-    let own = c.cell_at-c in 
-    let mid = c.part_start-mid-2 in 
-    let inner = c.bound_first in 
-    let one = c.run-a-2 in 
-    let two = c.run-d-2 in 
-    let put = c.copy_set in 
-    let a = c.args in 
-    let s = a.s in 
-    let z = c.requires.sized.0 in 
-    let low = c.requires.sized.1 in 
-    let more = c.requires.in_bounds in 
-    let ready = c.requires.ready in 
-    let eight : 8 ≤ own.result.kind = omega (arith, c.if-c-lt8.false) in record { few_rounds = λ e lo en. let few = few_template a.m.now a.end own.result own.ensures mid.result one.result two.result eight mid.ensures in
-          omega (arith, few one.ensures.few_rounds two.ensures.few_rounds e lo en); all_answered = λ fr st. let size = ready.set ∙ sym (accesses_total fr s.n a.t.now st.stands) in
+    let own = c.cell_at-c in
+    let mid = c.part_start-mid-2 in
+    let inner = c.bound_first in
+    let one = c.run-a-2 in
+    let two = c.run-d-2 in
+    let put = c.copy_set in
+    let a = c.args in
+    let s = a.s in
+    let z = c.requires.sized.0 in
+    let low = c.requires.sized.1 in
+    let more = c.requires.in_bounds in
+    let ready = c.requires.ready in
+    let eight : 8 ≤ own.result.kind = omega (arith, c.if-c-lt8.false) in
+    record {
+      few_rounds = λ e lo en. let few = few_template a.m.now a.end own.result own.ensures mid.result one.result two.result eight mid.ensures in
+          omega (arith, few one.ensures.few_rounds two.ensures.few_rounds e lo en);
+      all_answered = λ fr st. let size = ready.set ∙ sym (accesses_total fr s.n a.t.now st.stands) in
           ran_template a.m.now a.end own.result own.ensures fr s a.b a.k (few_accesses ready) size (sized_set z) low inner.result
           mid.result a.w.now one.new.w two.new.w put.new.w one.result two.result eight mid.ensures
-          inner.ensures (omega (arith, more.0, one.auto.w, two.auto.w)) (one.ensures.all_answered fr st) (two.ensures.all_answered fr st) put.ensures }
+          inner.ensures (omega (arith, more.0, one.auto.w, two.auto.w)) (one.ensures.all_answered fr st) (two.ensures.all_answered fr st) put.ensures;
+    }

@@ -11,7 +11,11 @@ use Rattle.composer.proofs.compose.Goals as goal
 
 pub run-requires : goal.run-requires
 run-requires c =
-    record { sized = (c.requires.sized, λ n l. absurd (omega arith)); in_bounds = c.requires.in_bounds; ready = search rules }
+    record {
+      sized = (c.requires.sized, λ n l. absurd (omega arith));
+      in_bounds = c.requires.in_bounds;
+      ready = search rules;
+    }
 
 pub returns : goal.returns
 returns c =

@@ -9,15 +9,24 @@ use Rattle.composer.proofs.tables.Goals as goal
 
 pub fill_order-requires : goal.fill_order-requires
 fill_order-requires c =
-    record { z_bound = (omega arith, c.requires.t_len.0, c.requires.subjects_len_bound.0); ordered = c.requires.ordered.0 }
+    record {
+      z_bound = (omega arith, c.requires.t_len.0, c.requires.subjects_len_bound.0);
+      ordered = c.requires.ordered.0;
+    }
 
 pub fill_order-requires-2 : goal.fill_order-requires-2
 fill_order-requires-2 c =
-    record { z_bound = (omega arith, c.fill_order.auto.t ∙ c.requires.t_len.0, c.requires.subjects_len_bound.1); ordered = c.requires.ordered.1 }
+    record {
+      z_bound = (omega arith, c.fill_order.auto.t ∙ c.requires.t_len.0, c.requires.subjects_len_bound.1);
+      ordered = c.requires.ordered.1;
+    }
 
 pub fill_order-requires-3 : goal.fill_order-requires-3
 fill_order-requires-3 c =
-    record { z_bound = (omega arith, c.fill_order-2.auto.t ∙ c.fill_order.auto.t ∙ c.requires.t_len.0, c.requires.subjects_len_bound.2); ordered = c.requires.ordered.2 }
+    record {
+      z_bound = (omega arith, c.fill_order-2.auto.t ∙ c.fill_order.auto.t ∙ c.requires.t_len.0, c.requires.subjects_len_bound.2);
+      ordered = c.requires.ordered.2;
+    }
 
 pub loop-i-init : goal.loop-i-init
 loop-i-init c =
@@ -55,4 +64,5 @@ returns c =
     is_stored a.subjects.now a.objects.now a.actions.now a.marks.now a.t.now fill-order.new.t fill-order2.new.t
     fill-order3.new.t loop.t fill-order.ensures fill-order2.ensures fill-order3.ensures
     (put_done 12288 loop.i 1024 (λ i. get_or a.marks.now i 0) fill-order3.new.t loop.t loop.invariant.0 (omega arith) loop.invariant.2)
-    (fill-order3.auto.t ∙ fill-order2.auto.t ∙ fill-order.auto.t ∙ c.requires.t_len.0) c.requires.subjects_len_bound.0 c.requires.subjects_len_bound.1 c.requires.subjects_len_bound.2
+    (fill-order3.auto.t ∙ fill-order2.auto.t ∙ fill-order.auto.t ∙ c.requires.t_len.0) c.requires.subjects_len_bound.0
+    c.requires.subjects_len_bound.1 c.requires.subjects_len_bound.2

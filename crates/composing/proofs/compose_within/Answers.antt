@@ -7,8 +7,12 @@ use Rattle.composing.proofs.compose_within.Goals as goal
 
 pub returns-then-read-ne0 : goal.returns-then-read-ne0
 returns-then-read-ne0 c =
-    let args = c.args in record { w_after = not_read args.f.now args.res.now args.w.now c.requires.0 c.requires.1 _ _ _ (c.read_within-read.ensures.read_as.no c.if-read-ne0.true)
-          _ c.not_composed.ensures; w_unchanged = c.read_within-read.ensures.w_unchanged }
+    let args = c.args in
+    record {
+      w_after = not_read args.f.now args.res.now args.w.now c.requires.0 c.requires.1 _ _ _ (c.read_within-read.ensures.read_as.no c.if-read-ne0.true)
+          _ c.not_composed.ensures;
+      w_unchanged = c.read_within-read.ensures.w_unchanged;
+    }
 
 pub run_policy-rounds-requires : goal.run_policy-rounds-requires
 run_policy-rounds-requires c =
@@ -19,13 +23,17 @@ run_policy-rounds-requires c =
 
 pub returns : goal.returns
 returns c =
-    let if1 = c.if-read-ne0 in 
-    let read-within = c.read_within-read in 
-    let args = c.args in 
-    let ensures = c.run_policy-rounds.ensures args.f.now (read-within.ensures.read_as.yes if1.false) in record { w_after = read_all args.f.now args.res.now args.w.now c.requires.0 c.requires.1 read-within.new.w read-within.auto.w
+    let if1 = c.if-read-ne0 in
+    let read-within = c.read_within-read in
+    let args = c.args in
+    let ensures = c.run_policy-rounds.ensures args.f.now (read-within.ensures.read_as.yes if1.false) in
+    record {
+      w_after = read_all args.f.now args.res.now args.w.now c.requires.0 c.requires.1 read-within.new.w read-within.auto.w
           read-within.result (read-within.ensures.read_as.yes if1.false) c.accesses-n.result
           (c.accesses-n.ensures ∙ ap total c.counts_of.ensures) _ _ ensures _ _ _ c.copy.ensures c.count-permits.ensures
-          c.count-undecided.ensures; w_unchanged = cleared_after _ _ _ _ ensures ∙ read-within.ensures.w_unchanged }
+          c.count-undecided.ensures;
+      w_unchanged = cleared_after _ _ _ _ ensures ∙ read-within.ensures.w_unchanged;
+    }
 
 pub copy-requires : goal.copy-requires
 copy-requires c =

@@ -202,12 +202,15 @@ primary-word_letter-letter-requires t c = n_bounds _ _ c.in-Good-word.is c.word.
 
 pub primary-put_table-q-requires : goal.primary-put_table-q-requires
 primary-put_table-q-requires t c =
-    record { sound = (
+    record {
+      sound = (
         c.requires.sound.0,
         (let g = n_bounds _ _ c.in-Good-word.is c.word.ensures in omega arith),
         (n_bounds _ _ c.in-Good-word.is c.word.ensures).1,
         c.requires.sound.2,
-      ); bound = bound_fewer _ 0 c.requires.bound (omega arith) }
+      );
+      bound = bound_fewer _ 0 c.requires.bound (omega arith);
+    }
 
 pub primary-returns-then-letter-eq3 : goal.primary-returns-then-letter-eq3
 primary-returns-then-letter-eq3 t c =

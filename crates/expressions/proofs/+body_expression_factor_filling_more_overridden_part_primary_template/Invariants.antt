@@ -37,7 +37,8 @@ decreases-template l = 8 * l.allow + 7
 abbrev pub invariant-more-loop-counts : goal.invariant-more-loop-counts
 invariant-more-loop-counts l =
     (length l.m ≡ length l.initial.m)
-    × ReadsMore (lookup_in l.f l.starts l.ends l.tags l.counts) (names_at l.t l.firsts l.lasts 0 l.bound) l.t l.initial.i l.allow l.i (nodes_in l.initial.m l.initial.q) (nodes_in l.m l.q)
+    × ReadsMore (lookup_in l.f l.starts l.ends l.tags l.counts) (names_at l.t l.firsts l.lasts 0 l.bound) l.t l.initial.i l.allow l.i
+    (nodes_in l.initial.m l.initial.q) (nodes_in l.m l.q)
 
 abbrev pub decreases-more-loop-counts : goal.decreases-more-loop-counts
 decreases-more-loop-counts l = length l.t - l.i

@@ -12,5 +12,10 @@ returns-in-Bad c = r_bad _ _ _ _ _ c.in-Bad.is c.from_start-v.ensures
 
 pub returns-else-not-ends_at : goal.returns-else-not-ends_at
 returns-else-not-ends_at c =
-    r_whole _ _ _ _ c.in-Good.is c.from_start-v.ensures _ refl record { room = refl; no_cells = refl; no_operators = refl; no_place = refl }
+    r_whole _ _ _ _ c.in-Good.is c.from_start-v.ensures _ refl record {
+      room = refl;
+      no_cells = refl;
+      no_operators = refl;
+      no_place = refl;
+    }
     c.requires.1 (eqb-true _ _ (sym c.ends_at.ensures ∙ c.if-not-ends_at.false))

@@ -30,7 +30,8 @@ pub returns-else-held-gt4 : goal.returns-else-held-gt4
 returns-else-held-gt4 c d ns g =
     goal_good _ _ _ _ _ d ns _ g _ _ (sym c.late.ensures ∙ c.if-late.false) (sym c.bad_counts.ensures ∙ c.if-bad_counts.false)
     (omega (arith, c.if-limit-gt4096.false)) _ (told_part _ _ _ _ c.requires.1 c.read-m.ensures) c.in-Good.is c.in-Nowhere.is
-    (omega (arith, c.if-nodes-gt64.false)) c.sets_held-held.result c.sets_held-held.ensures (omega (arith, c.if-held-gt14.false)) (omega (arith, c.if-held-gt4.false))
+    (omega (arith, c.if-nodes-gt64.false)) c.sets_held-held.result c.sets_held-held.ensures (omega (arith, c.if-held-gt14.false))
+    (omega (arith, c.if-held-gt4.false))
 
 pub returns-then-held-gt14 : goal.returns-then-held-gt14
 returns-then-held-gt14 c d ns g =

@@ -67,7 +67,8 @@ returns-then-c-eq4 t c =
     let p = c.sets_held-p in
     held_override c.requires c.cell_at-c.result c.cell_at-c.ensures c.if-c-eq4.true c.sets_held-s.result c.sets_held-s.ensures
     c.sets_held-q.result c.sets_held-q.ensures p.result c.larger-then-c-eq4-2.result c.larger-then-c-eq4-4.result p.ensures
-    (c.larger-then-c-eq4-2.ensures ∙ ap (max p.result.sets) c.larger-then-c-eq4.ensures) (c.larger-then-c-eq4-4.ensures ∙ ap (max p.result.bindings) c.larger-then-c-eq4-3.ensures)
+    (c.larger-then-c-eq4-2.ensures ∙ ap (max p.result.sets) c.larger-then-c-eq4.ensures)
+    (c.larger-then-c-eq4-4.ensures ∙ ap (max p.result.bindings) c.larger-then-c-eq4-3.ensures)
 
 pub sets_held-requires : goal.sets_held-requires
 sets_held-requires t c = (

@@ -24,7 +24,10 @@ use Rattle.reading.proofs.read_policy.Goals as goal
 
 pub returns-then-not-is_file : goal.returns-then-not-is_file
 returns-then-not-is_file c =
-    record { read_as = refuse_as _ _ 2 0 0 _ _ (λ z. omega arith) (no_file _ (sym c.is_file.ensures ∙ c.if-not-is_file.true)); w_unchanged = refl }
+    record {
+      read_as = refuse_as _ _ 2 0 0 _ _ (λ z. omega arith) (no_file _ (sym c.is_file.ensures ∙ c.if-not-is_file.true));
+      w_unchanged = refl;
+    }
 
 pub loop-at-init : goal.loop-at-init
 loop-at-init c =
@@ -51,16 +54,25 @@ overflow_add-at c =
 
 pub judge_grant-j-requires : goal.judge_grant-j-requires
 judge_grant-j-requires c =
-    let I = c.loop-at.invariant in 
-    let R = I.2 in 
-    let S = R.stands in record { sound = (S.sound, S.few, S.sizes.tags); actions_bound = S.counted; named = subst (LineWithin _) c.in-Grant.is c.parse_line-l.ensures.line_within }
+    let I = c.loop-at.invariant in
+    let R = I.2 in
+    let S = R.stands in
+    record {
+      sound = (S.sound, S.few, S.sizes.tags);
+      actions_bound = S.counted;
+      named = subst (LineWithin _) c.in-Grant.is c.parse_line-l.ensures.line_within;
+    }
 
 pub returns-in-Refused : goal.returns-in-Refused
 returns-in-Refused c =
-    let I = c.loop-at.invariant in 
-    let R = I.2 in record { read_as = refused_line _ _ _ _ _ _ _ I.1 R c.loop-at-test.true c.piece_end-end.ensures.value _
+    let I = c.loop-at.invariant in
+    let R = I.2 in
+    record {
+      read_as = refused_line _ _ _ _ _ _ _ I.1 R c.loop-at-test.true c.piece_end-end.ensures.value _
           (of_kind _ _ _ _ c.parse_line-l.ensures.result_value c.in-Grant.is) _ 0 (grant_no _ _ _ _ R.stands _ _ _ _ _
-          (c.judge_grant-j.ensures R.declared (names_stand _ _ _ _ _ _ R.stands.names) (sym R.stands.is_group)) _ c.in-Refused.is) _ _ _; w_unchanged = I.3 }
+          (c.judge_grant-j.ensures R.declared (names_stand _ _ _ _ _ _ R.stands.names) (sym R.stands.is_group)) _ c.in-Refused.is) _ _ _;
+      w_unchanged = I.3;
+    }
 
 pub put_grant-requires : goal.put_grant-requires
 put_grant-requires c =
@@ -119,12 +131,16 @@ judge_predicate-j-requires c =
 
 pub returns-in-Unmarked : goal.returns-in-Unmarked
 returns-in-Unmarked c =
-    let I = c.loop-at.invariant in 
-    let R = I.2 in 
-    let q = subst (LineWithin _) c.in-Predicate.is c.parse_line-l.ensures.line_within in record { read_as = refused_line _ _ _ _ _ _ _ I.1 R c.loop-at-test.true c.piece_end-end.ensures.value _
+    let I = c.loop-at.invariant in
+    let R = I.2 in
+    let q = subst (LineWithin _) c.in-Predicate.is c.parse_line-l.ensures.line_within in
+    record {
+      read_as = refused_line _ _ _ _ _ _ _ I.1 R c.loop-at-test.true c.piece_end-end.ensures.value _
           (of_kind _ _ _ _ c.parse_line-l.ensures.result_value c.in-Predicate.is) _ 0 (unmarked _ _ _ _ R.stands _ _ _ _ q.0 q.1.order q.1.fits _
           (c.judge_predicate-j.ensures R.declared (names_stand _ _ _ _ _ _ R.stands.names) (sym R.stands.is_group)) _ c.in-Unmarked.is) _ _
-          _; w_unchanged = I.3 }
+          _;
+      w_unchanged = I.3;
+    }
 
 pub mark_at-k-requires : goal.mark_at-k-requires
 mark_at-k-requires c =
@@ -222,11 +238,15 @@ judge_expression-goal-requires c =
 
 pub returns-then-goal-ne0 : goal.returns-then-goal-ne0
 returns-then-goal-ne0 c =
-    let I = c.loop-at.invariant in 
-    let R = I.2 in record { read_as = refused_line _ _ _ _ _ _ _ I.1 R c.loop-at-test.true c.piece_end-end.ensures.value _
+    let I = c.loop-at.invariant in
+    let R = I.2 in
+    record {
+      read_as = refused_line _ _ _ _ _ _ _ I.1 R c.loop-at-test.true c.piece_end-end.ensures.value _
           (of_kind _ _ _ _ c.parse_line-l.ensures.result_value c.in-Expression.is) _ _ (goal_no _ _ _ _
           (c.judge_expression-goal.ensures R.declared (names_stand _ _ _ _ _ _ R.stands.names) (sym R.stands.is_group)) c.if-goal-ne0.true)
-          _ _ _; w_unchanged = I.3 }
+          _ _ _;
+      w_unchanged = I.3;
+    }
 
 pub loop-at-smaller-in-Expression : goal.loop-at-smaller-in-Expression
 loop-at-smaller-in-Expression c =
@@ -252,29 +272,41 @@ loop-at-preserved-in-Expression c =
 
 pub judge_rule-j-requires : goal.judge_rule-j-requires
 judge_rule-j-requires c =
-    let I = c.loop-at.invariant in 
-    let R = I.2 in 
-    let S = R.stands in record { sound = (S.sound, S.few); named = subst (LineWithin _) c.in-Rule.is c.parse_line-l.ensures.line_within }
+    let I = c.loop-at.invariant in
+    let R = I.2 in
+    let S = R.stands in
+    record {
+      sound = (S.sound, S.few);
+      named = subst (LineWithin _) c.in-Rule.is c.parse_line-l.ensures.line_within;
+    }
 
 pub returns-then-j-ne0 : goal.returns-then-j-ne0
 returns-then-j-ne0 c =
-    let I = c.loop-at.invariant in 
-    let R = I.2 in 
-    let S = R.stands in 
-    let J = c.judge_rule-j.ensures.rule_judged R.declared (names_stand _ _ _ _ _ _ S.names) (sym S.is_group) (rules_are _ _ _ _ S) in record { read_as = refused_line _ _ _ _ _ _ _ I.1 R c.loop-at-test.true c.piece_end-end.ensures.value _
-          (of_kind _ _ _ _ c.parse_line-l.ensures.result_value c.in-Rule.is) _ 0 (refused_by _ J.verdict c.if-j-ne0.true) _ _ _; w_unchanged = I.3 }
+    let I = c.loop-at.invariant in
+    let R = I.2 in
+    let S = R.stands in
+    let J = c.judge_rule-j.ensures.rule_judged R.declared (names_stand _ _ _ _ _ _ S.names) (sym S.is_group) (rules_are _ _ _ _ S) in
+    record {
+      read_as = refused_line _ _ _ _ _ _ _ I.1 R c.loop-at-test.true c.piece_end-end.ensures.value _
+          (of_kind _ _ _ _ c.parse_line-l.ensures.result_value c.in-Rule.is) _ 0 (refused_by _ J.verdict c.if-j-ne0.true) _ _ _;
+      w_unchanged = I.3;
+    }
 
 pub first_rule-st-requires : goal.first_rule-st-requires
 first_rule-st-requires c =
-    let I = c.loop-at.invariant in 
-    let R = I.2 in 
-    let S = R.stands in 
-    let q = subst (LineWithin _) c.in-Rule.is c.parse_line-l.ensures.line_within in 
-    let fits = c.judge_rule-j.ensures.rule_fits in 
-    let z = c.if-j-ne0.false in 
-    let s = I.1.short in 
-    let set_is = fits.next z c.if-j.true in 
-    let set-low = fits.set z in record { few = (S.few, S.sizes, omega (arith, q.0.order, q.0.fits), omega (arith, q.0.fits)); sets_bound = (omega arith, fits.room z) }
+    let I = c.loop-at.invariant in
+    let R = I.2 in
+    let S = R.stands in
+    let q = subst (LineWithin _) c.in-Rule.is c.parse_line-l.ensures.line_within in
+    let fits = c.judge_rule-j.ensures.rule_fits in
+    let z = c.if-j-ne0.false in
+    let s = I.1.short in
+    let set_is = fits.next z c.if-j.true in
+    let set-low = fits.set z in
+    record {
+      few = (S.few, S.sizes, omega (arith, q.0.order, q.0.fits), omega (arith, q.0.fits));
+      sets_bound = (omega arith, fits.room z);
+    }
 
 pub loop-at-smaller-then-j : goal.loop-at-smaller-then-j
 loop-at-smaller-then-j c =
@@ -350,18 +382,26 @@ loop-at-preserved-in-Rule c =
 
 pub table_line-next-requires : goal.table_line-next-requires
 table_line-next-requires c =
-    let I = c.loop-at.invariant in 
-    let R = I.2 in 
-    let S = R.stands in 
-    let q = subst (LineWithin _) c.in-Table.is c.parse_line-l.ensures.line_within in record { sound = (S.sound, S.few, S.sizes, q, I.1.short); actions_bound = S.counted }
+    let I = c.loop-at.invariant in
+    let R = I.2 in
+    let S = R.stands in
+    let q = subst (LineWithin _) c.in-Table.is c.parse_line-l.ensures.line_within in
+    record {
+      sound = (S.sound, S.few, S.sizes, q, I.1.short);
+      actions_bound = S.counted;
+    }
 
 pub returns-then-next-ne0 : goal.returns-then-next-ne0
 returns-then-next-ne0 c =
-    let I = c.loop-at.invariant in 
-    let R = I.2 in 
-    let S = R.stands in 
-    let J = c.table_line-next.ensures _ R.declared S in record { read_as = refused_line _ _ _ _ _ _ _ I.1 R c.loop-at-test.true c.piece_end-end.ensures.value _
-          (of_kind _ _ _ _ c.parse_line-l.ensures.result_value c.in-Table.is) _ 0 (judged_no _ _ _ _ _ J c.if-next-ne0.true) _ _ _; w_unchanged = I.3 }
+    let I = c.loop-at.invariant in
+    let R = I.2 in
+    let S = R.stands in
+    let J = c.table_line-next.ensures _ R.declared S in
+    record {
+      read_as = refused_line _ _ _ _ _ _ _ I.1 R c.loop-at-test.true c.piece_end-end.ensures.value _
+          (of_kind _ _ _ _ c.parse_line-l.ensures.result_value c.in-Table.is) _ 0 (judged_no _ _ _ _ _ J c.if-next-ne0.true) _ _ _;
+      w_unchanged = I.3;
+    }
 
 pub loop-at-smaller-in-Table : goal.loop-at-smaller-in-Table
 loop-at-smaller-in-Table c =
@@ -395,12 +435,16 @@ judge_joining-j-requires c =
 
 pub returns-in-Barred : goal.returns-in-Barred
 returns-in-Barred c =
-    let I = c.loop-at.invariant in 
-    let R = I.2 in 
-    let S = R.stands in 
+    let I = c.loop-at.invariant in
+    let R = I.2 in
+    let S = R.stands in
     let J = is_barred _ _ _ _ (c.judge_joining-j.ensures R.declared (names_stand _ _ _ _ _ _ S.names) (sym S.is_group))
-    c.in-Barred.is in record { read_as = refused_line _ _ _ _ _ _ _ I.1 R c.loop-at-test.true c.piece_end-end.ensures.value _
-          (sym c.parse_line-l.ensures.result_value ∙ J.is) _ 0 J.refused _ _ _; w_unchanged = I.3 }
+    c.in-Barred.is in
+    record {
+      read_as = refused_line _ _ _ _ _ _ _ I.1 R c.loop-at-test.true c.piece_end-end.ensures.value _
+          (sym c.parse_line-l.ensures.result_value ∙ J.is) _ 0 J.refused _ _ _;
+      w_unchanged = I.3;
+    }
 
 pub overflow_cast-st : goal.overflow_cast-st
 overflow_cast-st c =
@@ -498,13 +542,18 @@ loop-at-preserved-in-Joins c =
 
 pub returns-then-not-is_body : goal.returns-then-not-is_body
 returns-then-not-is_body c =
-    let I = c.loop-at.invariant in 
-    let R = I.2 in 
-    let S = R.stands in 
-    let l = c.parse_line-l.result in 
+    let I = c.loop-at.invariant in
+    let R = I.2 in
+    let S = R.stands in
+    let l = c.parse_line-l.result in
     let J = is_elsewhere _ _ _ _ (c.judge_joining-j.ensures R.declared (names_stand _ _ _ _ _ _ S.names) (sym S.is_group))
-    c.in-Elsewhere.is in record { read_as = wrong_line _ _ _ _ _ _ _ I.1 R c.loop-at-test.true c.piece_end-end.ensures.value
-          (sym c.parse_line-l.ensures.result_value ∙ wrong_form _ l c.in_default.not-Predicate c.in_default.not-Table c.in_default.not-Grant c.in_default.not-Rule c.in_default.not-Expression J (sym c.is_body.ensures ∙ c.if-not-is_body.true)) _ _ _; w_unchanged = I.3 }
+    c.in-Elsewhere.is in
+    record {
+      read_as = wrong_line _ _ _ _ _ _ _ I.1 R c.loop-at-test.true c.piece_end-end.ensures.value
+          (sym c.parse_line-l.ensures.result_value ∙ wrong_form _ l c.in_default.not-Predicate c.in_default.not-Table c.in_default.not-Grant
+          c.in_default.not-Rule c.in_default.not-Expression J (sym c.is_body.ensures ∙ c.if-not-is_body.true)) _ _ _;
+      w_unchanged = I.3;
+    }
 
 pub bounds-st-i-in-Elsewhere : goal.bounds-st-i-in-Elsewhere
 bounds-st-i-in-Elsewhere c =
@@ -522,18 +571,22 @@ judge_body-b-requires c =
 
 pub returns-then-b-ne0 : goal.returns-then-b-ne0
 returns-then-b-ne0 c =
-    let I = c.loop-at.invariant in 
-    let R = I.2 in 
-    let S = R.stands in 
+    let I = c.loop-at.invariant in
+    let R = I.2 in
+    let S = R.stands in
     let b = bodied _ c.parse_line-l.result
     (sym c.is_body.ensures
-    ∙ c.if-not-is_body.false) in 
+    ∙ c.if-not-is_body.false) in
     let same = last_same c.loop-at.st.rules _ _
-    c.last_at-i.ensures in 
-    let lines = c.lines_in-lines.ensures c.loop-at.st.rules same in 
+    c.last_at-i.ensures in
+    let lines = c.lines_in-lines.ensures c.loop-at.st.rules same in
     let J = c.judge_body-b.ensures.body_judged R.declared b.body b.is (names_stand _ _ _ _ _ _ S.names) (sym S.is_group)
-    (rules_are _ _ _ _ S) (lines_are _ _ _ _ S ∙ sym lines) S.sorted in record { read_as = refused_line _ _ _ _ _ _ _ I.1 R c.loop-at-test.true c.piece_end-end.ensures.value _
-          (body_line_lem _ _ _ _ c.parse_line-l.ensures.result_value b.is) _ 0 (refused_by _ J.verdict c.if-b-ne0.true) _ _ _; w_unchanged = I.3 }
+    (rules_are _ _ _ _ S) (lines_are _ _ _ _ S ∙ sym lines) S.sorted in
+    record {
+      read_as = refused_line _ _ _ _ _ _ _ I.1 R c.loop-at-test.true c.piece_end-end.ensures.value _
+          (body_line_lem _ _ _ _ c.parse_line-l.ensures.result_value b.is) _ 0 (refused_by _ J.verdict c.if-b-ne0.true) _ _ _;
+      w_unchanged = I.3;
+    }
 
 pub with_line-requires : goal.with_line-requires
 with_line-requires c =
@@ -612,9 +665,17 @@ loop-at-preserved c =
 -- before `returns-then-st-ne7`: a file without an E line that is taken fails here
 pub returns : goal.returns
 returns c =
-    let I = c.loop-at.invariant in let R = I.2 in record { read_as = all_read _ _ _ _ _ _ I.1 R (let x = R.within in let y = c.loop-at-test.false in omega arith) c.if-st-ne7.false; w_unchanged = I.3 }
+    let I = c.loop-at.invariant in let R = I.2 in
+    record {
+      read_as = all_read _ _ _ _ _ _ I.1 R (let x = R.within in let y = c.loop-at-test.false in omega arith) c.if-st-ne7.false;
+      w_unchanged = I.3;
+    }
 
 pub returns-then-st-ne7 : goal.returns-then-st-ne7
 returns-then-st-ne7 c =
-    let I = c.loop-at.invariant in let R = I.2 in record { read_as = refuse_as _ _ 9 0 0 _ _ (λ z. omega arith)
-          (no_end _ _ _ _ _ _ I.1 R (let x = R.within in let y = c.loop-at-test.false in omega arith) c.if-st-ne7.true); w_unchanged = I.3 }
+    let I = c.loop-at.invariant in let R = I.2 in
+    record {
+      read_as = refuse_as _ _ 9 0 0 _ _ (λ z. omega arith)
+          (no_end _ _ _ _ _ _ I.1 R (let x = R.within in let y = c.loop-at-test.false in omega arith) c.if-st-ne7.true);
+      w_unchanged = I.3;
+    }

@@ -24,7 +24,12 @@ returns c =
 
 pub compose-requires : goal.compose-requires
 compose-requires c =
-    let a = c.args in 
-    let f = c.requires.1.file in 
-    let G = c.requires.1.good in record { sized = is_sized f a.w.now a.r G c.counts_of-n.result c.counts_of-n.ensures; in_bounds = (c.requires.0, c.fill_rules.auto.b, G.few_grants, G.goal.limited); ready = is_ready f a.w.now a.r G c.counts_of-n.result c.counts_of-n.ensures c.wide-many.result c.wide-many.ensures.0 c.fill_rules.new.b
-            c.fill_rules.ensures _ c.fill_table.auto.t }
+    let a = c.args in
+    let f = c.requires.1.file in
+    let G = c.requires.1.good in
+    record {
+      sized = is_sized f a.w.now a.r G c.counts_of-n.result c.counts_of-n.ensures;
+      in_bounds = (c.requires.0, c.fill_rules.auto.b, G.few_grants, G.goal.limited);
+      ready = is_ready f a.w.now a.r G c.counts_of-n.result c.counts_of-n.ensures c.wide-many.result c.wide-many.ensures.0 c.fill_rules.new.b
+            c.fill_rules.ensures _ c.fill_table.auto.t;
+    }

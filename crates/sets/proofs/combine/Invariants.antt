@@ -8,4 +8,5 @@ use Rattle.sets.proofs.combine.Given as goal
 
 abbrev pub invariant-loop-x : goal.invariant-loop-x
 invariant-loop-x l =
-    (l.x ≤ l.n) × (length l.w ≡ length l.initial.w) × (Answers l.k l.n l.initial.w → Answers (l.k + 1) l.n l.initial.w → l.w ≡ put_set l.k l.x (operated l.op l.k l.initial.w) l.initial.w)
+    (l.x ≤ l.n) × (length l.w ≡ length l.initial.w) × (Answers l.k l.n l.initial.w → Answers (l.k + 1) l.n l.initial.w → l.w ≡ put_set l.k l.x
+    (operated l.op l.k l.initial.w) l.initial.w)

@@ -7,7 +7,8 @@ use Rattle.snowdell.proofs.decide.Goals as goal
 
 pub returns-then-w-lt65536 : goal.returns-then-w-lt65536
 returns-then-w-lt65536 c =
-    let p = decide_promises c.args.f.now c.args.s.now c.args.o.now c.args.a.now c.args.w.now c.not_decided.result c.args.w.now (short_memory _ _ _ _ _ c.if-w-lt65536.true _ c.not_decided.ensures) in
+    let p = decide_promises c.args.f.now c.args.s.now c.args.o.now c.args.a.now c.args.w.now c.not_decided.result c.args.w.now
+    (short_memory _ _ _ _ _ c.if-w-lt65536.true _ c.not_decided.ensures) in
     record { w_after = p.0; promised = p.1 }
 
 pub returns : goal.returns

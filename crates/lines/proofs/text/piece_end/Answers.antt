@@ -9,8 +9,12 @@ loop-i-init c = (omega arith, omega arith, refl)
 
 pub returns-then-f-i : goal.returns-then-f-i
 returns-then-f-i c =
-    let a = c.args in 
-    let l = c.loop-i in record { value = sym (l.invariant.2 ∙ end_hit a.sep a.f.now l.i a.to (omega arith) (omega arith) c.if-f-i.true); lower_bound = omega arith }
+    let a = c.args in
+    let l = c.loop-i in
+    record {
+      value = sym (l.invariant.2 ∙ end_hit a.sep a.f.now l.i a.to (omega arith) (omega arith) c.if-f-i.true);
+      lower_bound = omega arith;
+    }
 
 pub loop-i-preserved : goal.loop-i-preserved
 loop-i-preserved c =
@@ -20,6 +24,10 @@ loop-i-preserved c =
 
 pub returns : goal.returns
 returns c =
-    let a = c.args in 
-    let l = c.loop-i in 
-    let e : l.i ≡ a.to = omega arith in record { value = sym (l.invariant.2 ∙ rw e (end_none a.sep a.f.now a.to)); lower_bound = omega arith }
+    let a = c.args in
+    let l = c.loop-i in
+    let e : l.i ≡ a.to = omega arith in
+    record {
+      value = sym (l.invariant.2 ∙ rw e (end_none a.sep a.f.now a.to));
+      lower_bound = omega arith;
+    }

@@ -5,7 +5,13 @@ use Rattle.snowdell.proofs.exports.snowdell_compose.Goals as goal
 
 pub returns-then-numbers-lt7 : goal.returns-then-numbers-lt7
 returns-then-numbers-lt7 c =
-    let t = c.if-numbers-lt7.true in record { value = returns_no_room _ _ t; numbers_after = hands_nothing _ _ t; res_after = room_no 7 _ _ _ t; w_after = room_no 7 _ _ _ t }
+    let t = c.if-numbers-lt7.true in
+    record {
+      value = returns_no_room _ _ t;
+      numbers_after = hands_nothing _ _ t;
+      res_after = room_no 7 _ _ _ t;
+      w_after = room_no 7 _ _ _ t;
+    }
 
 pub returns : goal.returns
 returns c =
