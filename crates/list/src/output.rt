@@ -7,16 +7,15 @@ use std::io;
 // What the count becomes once the output could not be written: that is said once, and nothing more is gathered.
 const FAILED: usize = 4097;
 
-// Says on standard error what failed and why, in one line: the system's words for the error, without its number.
+// An error's words, without the system's number for it.
+fn why(text: &str) -> &str {
+    text.split(" (os error ").next().unwrap_or(text)
+}
+
+// Says on standard error what failed and why, in one line.
 pub fn fail(rt: &(impl Eprint + Alloc), what: &str, error: &io::Error) {
     let _ = match format!(in rt.alloc(); "{error}") {
-        Ok(text) => {
-            let why = match text.split_once(" (os error ") {
-                Some((why, _)) => why,
-                None => text.as_str(),
-            };
-            eprintln!(rt; "{what}: {why}")
-        }
+        Ok(text) => eprintln!(rt; "{what}: {}", why(text.as_str())),
         Err(_) => eprintln!(rt; "{what}: {error}"),
     };
 }
