@@ -7,7 +7,7 @@ use std::io::Read;
 use std::rt::Files;
 use std::{env, io};
 
-// One byte more than the file, which is beyond what a policy may have, is not asked for: what is beyond these is not read.
+// So many bytes of a file are read: they are too many for a policy already.
 const MOST: u64 = 65536;
 
 fn part(rt: &impl Print, n: u64) -> io::Result<()> {
@@ -25,7 +25,6 @@ fn print(rt: &impl Print, name: &str, r: Checked) -> io::Result<()> {
     println!(rt)
 }
 
-// What is beyond the first 65,536 bytes is not read: they are too many for a policy already.
 fn checked(rt: &impl AllocGlobal, file: impl Read + Drop) -> io::Result<Checked> {
     let mut text = Vec::new(rt.alloc());
     file.take(MOST).read_to_end(&mut text)?;
