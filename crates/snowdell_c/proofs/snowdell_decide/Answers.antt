@@ -1,12 +1,11 @@
-use Rattle.snowdell.proofs.Handing.{hands_nothing}
-use Rattle.snowdell.proofs.Numbers.{returns_no_room, room_no, decide_hands}
-use borrow.Author.Rules.{rules}
-use Rattle.snowdell.proofs.exports.snowdell_decide.Goals as goal
+use Rattle.snowdell_c.proofs.Handing.{hands_nothing}
+use Rattle.snowdell_c.proofs.Numbers.{returns_no_room, room_no, decide_hands}
+use Rattle.snowdell_c.proofs.snowdell_decide.Goals as goal
 
 -- before `returns`: a call that runs without room for its numbers fails here
 pub returns : goal.returns
 returns c =
-    let room = c.if-numbers-lt5.false in 
+    let room = c.if-numbers-lt5.false in
     let h = decide_hands _ _ _ _ _ _ _ c.args.w.now room c.wide-number.ensures c.wide.ensures c.decide-r.ensures.w_after
     c.hand.ensures in record { value = h.0; numbers_after = h.1; w_after = h.2 }
 

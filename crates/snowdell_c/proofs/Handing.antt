@@ -5,7 +5,7 @@ use Prim.Native.Nat.{ℕ, ◌≤◌, ◌<◌}
 use lib.ListN.{length}
 use borrow.Author.Tests.{le-leb, lt-leb}
 use Rattle.algebra.specs.Bytes.{written}
-use Rattle.snowdell.specs.Handed.{handed}
+use Rattle.snowdell_c.specs.Handed.{handed}
 
 pub hands : (ns l : List ℕ) → length ns ≤ length l → written ns l ≡ handed ns l
 unfolding handed

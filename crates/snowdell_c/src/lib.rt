@@ -1,10 +1,12 @@
 // The calls for programs in C and Rust: each hands its numbers over in a slice and returns the first of them, 0 or the refusal's number.
 // Where the slice is too short for them, nothing is done, and a value is returned that no refusal has.
+#![tactic(auto)]
+
 ghost use Rattle.std.specs.Prelude.{◌≡◌, ◌≤◌, length};
 ghost use Rattle.engine.specs.Calls as Calls;
-ghost use Rattle.snowdell.specs.Handed.{handed, returned, version, where_room, check_numbers, compose_numbers, decide_numbers};
+ghost use Rattle.snowdell_c.specs.Handed.{handed, returned, version, where_room, check_numbers, compose_numbers, decide_numbers};
 
-use crate::{check, compose, decide};
+use snowdell::{check, compose, decide};
 
 fn wide(x: u8) -> usize
     ensures { result ≡ x }

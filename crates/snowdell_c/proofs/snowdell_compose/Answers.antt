@@ -1,7 +1,6 @@
-use Rattle.snowdell.proofs.Handing.{hands_nothing}
-use Rattle.snowdell.proofs.Numbers.{returns_no_room, room_no, compose_hands}
-use borrow.Author.Rules.{rules}
-use Rattle.snowdell.proofs.exports.snowdell_compose.Goals as goal
+use Rattle.snowdell_c.proofs.Handing.{hands_nothing}
+use Rattle.snowdell_c.proofs.Numbers.{returns_no_room, room_no, compose_hands}
+use Rattle.snowdell_c.proofs.snowdell_compose.Goals as goal
 
 pub returns-then-numbers-lt7 : goal.returns-then-numbers-lt7
 returns-then-numbers-lt7 c =

@@ -1,14 +1,12 @@
-use mathlib.Core.Path.{◌≡◌, refl, sym, ap, ◌∙◌}
-use Prim.Native.Nat.{◌-◌, ◌≤◌}
+use mathlib.Core.Path.{refl, sym, ap, ◌∙◌}
 use native.Mathlib.Nat.{zero-add}
 use native.Mathlib.Omega.{arith}
 use lib.ListN.{length, get_or, set, length-set}
 use lib.Seq.{take-length}
-use Rattle.algebra.specs.Lists.{tab}
 use Rattle.sets.specs.Bytes.{put}
 use Rattle.sets.proofs.Bytes.{put_none, put_more, put_done, take_tab, written_put}
-use Rattle.snowdell.proofs.Handing.{hands, hands_nothing}
-use Rattle.snowdell.proofs.exports.hand.Goals as goal
+use Rattle.snowdell_c.proofs.Handing.{hands, hands_nothing}
+use Rattle.snowdell_c.proofs.hand.Goals as goal
 
 pub returns-then-numbers-n : goal.returns-then-numbers-n
 returns-then-numbers-n c = hands_nothing _ _ (omega (arith, c.if-numbers-n.true))

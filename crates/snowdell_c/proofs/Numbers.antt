@@ -5,7 +5,7 @@ use Prim.Native.Nat.{ℕ, ◌≤◌, ◌<◌}
 use lib.ListN.{length, get_or}
 use borrow.Author.Tests.{le-leb, lt-leb}
 use Rattle.engine.specs.Calls as Calls
-use Rattle.snowdell.specs.Handed.{handed, returned, no_room, where_room, check_numbers, compose_numbers, decide_numbers}
+use Rattle.snowdell_c.specs.Handed.{handed, returned, no_room, where_room, check_numbers, compose_numbers, decide_numbers}
 use Rattle.snowdell.specs.Returned.{checked_of}
 use Rattle.composing.specs.Composition.{composed_of}
 use Rattle.deciding.specs.Decision.{decided_of}
