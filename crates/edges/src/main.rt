@@ -1,47 +1,46 @@
 // Runs Check on each file that an argument names, and prints a line for it: the name, number, line, place and the three sort counts.
 #![tactic(auto)]
 
-use libc::STDOUT_FILENO;
 use snowdell::{Checked, check};
+use std::fs::File;
+use std::io::Read;
+use std::rt::Files;
+use std::{env, io};
 
-fn part(n: u64) {
-    io::write_all(STDOUT_FILENO, &[b',']);
-    io::print_decimal(STDOUT_FILENO, n);
+// So many bytes of a file are read: they are too many for a policy already.
+const MOST: u64 = 65536;
+
+fn part(rt: &impl Print, n: u64) -> io::Result<()> {
+    print!(rt; ",{n}")
 }
 
-fn print(name: &[u8], r: Checked) {
-    io::write_all(STDOUT_FILENO, name);
-    part(r.number as u64);
-    part(r.line as u64);
-    part(r.place as u64);
-    part(r.subjects as u64);
-    part(r.objects as u64);
-    part(r.actions as u64);
-    io::write_all(STDOUT_FILENO, &[b'\n']);
+fn print(rt: &impl Print, name: &str, r: Checked) -> io::Result<()> {
+    print!(rt; "{name}")?;
+    part(rt, u64::from(r.number))?;
+    part(rt, r.line as u64)?;
+    part(rt, r.place as u64)?;
+    part(rt, u64::from(r.subjects))?;
+    part(rt, u64::from(r.objects))?;
+    part(rt, u64::from(r.actions))?;
+    println!(rt)
 }
 
-// What is beyond the buffer is not read: its 65,536 bytes are too many for a policy already.
-fn checked(fd: i32) -> Checked {
-    let mut file = io::large_buffer();
-    let n = io::read_full(fd, &mut file);
-    check(&file[..n])
+fn checked(rt: &impl AllocGlobal, file: impl Read + Drop) -> io::Result<Checked> {
+    let mut text = Vec::new(rt.alloc());
+    file.take(MOST).read_to_end(&mut text)?;
+    Ok(check(&text))
 }
 
-fn file(i: usize) {
-    let mut name = io::buffer();
-    let n = os::arg(i, &mut name);
-    let fd = os::open_read(&name[..n]);
-    if fd < 0 {
-        os::fail(&name[..n]);
-        return;
+fn file<R: Files + Print + Eprint + AllocGlobal>(rt: &R, name: &str) -> io::Result<()> {
+    match File::open(rt, name) {
+        Ok(file) => print(rt, name, checked(rt, file)?),
+        Err(e) => eprintln!(rt; "{name}: {e}"),
     }
-    print(&name[..n], checked(fd));
-    libc::close(fd);
 }
 
-fn main() {
-    let n = os::arg_count();
-    for i in 1..n {
-        file(i);
+fn main(rt: HostRuntime) -> io::Result<()> {
+    for name in env::args(&rt)?.skip(1) {
+        file(&rt, name.as_str())?;
     }
+    Ok(())
 }

@@ -5,8 +5,14 @@
 ghost use Rattle.std.specs.Prelude.{◌<◌};
 
 use composing::Composed;
-use libc::STDOUT_FILENO;
 use snowdell::compose;
+use std::fs::File;
+use std::io::Read;
+use std::rt::Files;
+use std::{env, io};
+
+// So many bytes of a file are read: they are too many for a policy already.
+const MOST: u64 = 65536;
 
 // The digest with one byte more: times 31, modulo the largest prime below 2 to the 32.
 fn mix(h: u64, b: u8) -> u64
@@ -24,53 +30,46 @@ fn digest(res: &[u8; 4096]) -> u64 {
     h
 }
 
-fn part(n: u64) {
-    io::write_all(STDOUT_FILENO, &[b',']);
-    io::print_decimal(STDOUT_FILENO, n);
+fn part(rt: &impl Print, n: u64) -> io::Result<()> {
+    print!(rt; ",{n}")
 }
 
-fn print(name: &[u8], r: Composed, sum: u64) {
-    io::write_all(STDOUT_FILENO, name);
-    part(r.number as u64);
-    part(r.line as u64);
-    part(r.place as u64);
-    part(r.accesses as u64);
-    part(r.permits as u64);
-    part(r.undecided as u64);
-    part(r.rounds as u64);
-    part(sum);
-    io::write_all(STDOUT_FILENO, &[b'\n']);
+fn print(rt: &impl Print, name: &str, r: Composed, sum: u64) -> io::Result<()> {
+    print!(rt; "{name}")?;
+    part(rt, u64::from(r.number))?;
+    part(rt, r.line as u64)?;
+    part(rt, r.place as u64)?;
+    part(rt, r.accesses as u64)?;
+    part(rt, r.permits as u64)?;
+    part(rt, r.undecided as u64)?;
+    part(rt, r.rounds as u64)?;
+    part(rt, sum)?;
+    println!(rt)
 }
 
-fn composed(name: &[u8], f: &[u8]) {
+fn composed(rt: &impl Print, name: &str, f: &[u8]) -> io::Result<()> {
     let mut result = [7u8; 4096];
-    let mut w = io::large_buffer();
+    let mut w = [0u8; 65536];
     let r = compose(f, &mut result, &mut w);
-    print(name, r, digest(&result));
+    print(rt, name, r, digest(&result))
 }
 
-// What is beyond the buffer is not read: its 65,536 bytes are too many for a policy already.
-fn policy(name: &[u8], fd: i32) {
-    let mut file = io::large_buffer();
-    let n = io::read_full(fd, &mut file);
-    composed(name, &file[..n]);
+fn policy(rt: &(impl Print + AllocGlobal), name: &str, file: impl Read + Drop) -> io::Result<()> {
+    let mut text = Vec::new(rt.alloc());
+    file.take(MOST).read_to_end(&mut text)?;
+    composed(rt, name, &text)
 }
 
-fn file(i: usize) {
-    let mut name = io::buffer();
-    let n = os::arg(i, &mut name);
-    let fd = os::open_read(&name[..n]);
-    if fd < 0 {
-        os::fail(&name[..n]);
-        return;
+fn file<R: Files + Print + Eprint + AllocGlobal>(rt: &R, name: &str) -> io::Result<()> {
+    match File::open(rt, name) {
+        Ok(file) => policy(rt, name, file),
+        Err(e) => eprintln!(rt; "{name}: {e}"),
     }
-    policy(&name[..n], fd);
-    libc::close(fd);
 }
 
-fn main() {
-    let n = os::arg_count();
-    for i in 1..n {
-        file(i);
+fn main(rt: HostRuntime) -> io::Result<()> {
+    for name in env::args(&rt)?.skip(1) {
+        file(&rt, name.as_str())?;
     }
+    Ok(())
 }

@@ -10,28 +10,28 @@ ghost use Rattle.std.specs.Prelude.{◌≤◌};
 use composing::Composed;
 use input::read_all;
 use members::{line_at, name, starts};
-use output::{byte, flush, number, word};
+use output::{byte, fail, flush, number, word};
 use snowdell::{Checked, check, compose};
 
-fn refused(out: &mut [u8; 4096], r: Composed) {
-    let mut n = word(out, 0, b"refused");
-    n = number(out, n, r.number as u64);
-    n = number(out, n, r.line as u64);
-    n = number(out, n, r.place as u64);
-    n = byte(out, n, b'\n');
-    flush(out, n);
+fn refused(rt: &(impl Print + Eprint + Alloc), out: &mut [u8; 4096], r: Composed) {
+    let mut n = word(rt, out, 0, b"refused");
+    n = number(rt, out, n, r.number as u64);
+    n = number(rt, out, n, r.line as u64);
+    n = number(rt, out, n, r.place as u64);
+    n = byte(rt, out, n, b'\n');
+    flush(rt, out, n);
 }
 
 // The first line: N, permits, undecided and rounds.
-fn grants(out: &mut [u8; 4096], r: Composed) -> usize
+fn grants(rt: &(impl Print + Eprint + Alloc), out: &mut [u8; 4096], r: Composed) -> usize
     ensures { result ≤ 4097 }
 {
-    let mut n = word(out, 0, b"grants");
-    n = number(out, n, r.accesses as u64);
-    n = number(out, n, r.permits as u64);
-    n = number(out, n, r.undecided as u64);
-    n = number(out, n, r.rounds as u64);
-    byte(out, n, b'\n')
+    let mut n = word(rt, out, 0, b"grants");
+    n = number(rt, out, n, r.accesses as u64);
+    n = number(rt, out, n, r.permits as u64);
+    n = number(rt, out, n, r.undecided as u64);
+    n = number(rt, out, n, r.rounds as u64);
+    byte(rt, out, n, b'\n')
 }
 
 fn wide(x: u8) -> usize
@@ -56,6 +56,7 @@ fn remainder(x: usize, n: usize) -> usize {
 
 // The line of an access that is not denied: the answer's word and the three names. The access's number is (s × objects + o) × actions + a.
 fn access(
+    rt: &(impl Print + Eprint + Alloc),
     out: &mut [u8; 4096],
     at: usize,
     f: &[u8],
@@ -74,35 +75,48 @@ fn access(
     let objects = wide(c.objects);
     let actions = wide(c.actions);
     let pair = quotient(x, actions);
-    let mut n = answered(out, at, answer);
-    n = name(out, n, f, line_at(lines, 0, quotient(pair, objects)));
+    let mut n = answered(rt, out, at, answer);
+    n = name(rt, out, n, f, line_at(lines, 0, quotient(pair, objects)));
     n = name(
+        rt,
         out,
         n,
         f,
         line_at(lines, subjects, remainder(pair, objects)),
     );
     n = name(
+        rt,
         out,
         n,
         f,
         line_at(lines, subjects + objects, remainder(x, actions)),
     );
-    byte(out, n, b'\n')
+    byte(rt, out, n, b'\n')
 }
 
-fn answered(out: &mut [u8; 4096], at: usize, answer: u8) -> usize
+fn answered(
+    rt: &(impl Print + Eprint + Alloc),
+    out: &mut [u8; 4096],
+    at: usize,
+    answer: u8,
+) -> usize
     requires { at ≤ 4097 }
     ensures { result ≤ 4097 }
 {
     if answer == 2 {
-        return word(out, at, b"permit");
+        return word(rt, out, at, b"permit");
     }
-    word(out, at, b"undecided")
+    word(rt, out, at, b"undecided")
 }
 
 // The lines of the accesses in byte order. The result's bytes from N on are 0, as they were lent.
-fn accesses(out: &mut [u8; 4096], at: usize, f: &[u8], res: &[u8; 4096]) -> usize
+fn accesses(
+    rt: &(impl Print + Eprint + Alloc),
+    out: &mut [u8; 4096],
+    at: usize,
+    f: &[u8],
+    res: &[u8; 4096],
+) -> usize
     requires { at ≤ 4097 }
     ensures { result ≤ 4097 }
 {
@@ -110,32 +124,29 @@ fn accesses(out: &mut [u8; 4096], at: usize, f: &[u8], res: &[u8; 4096]) -> usiz
     let lines = starts(f);
     let mut n = at;
     for x in 0..4096 {
-        n = access(out, n, f, &lines, c, res[x], x);
+        n = access(rt, out, n, f, &lines, c, res[x], x);
     }
     n
 }
 
-fn list(f: &[u8]) {
+fn list(rt: &(impl Print + Eprint + Alloc), f: &[u8]) {
     let mut result = [0u8; 4096];
-    let mut w = io::large_buffer();
+    let mut w = [0u8; 65536];
     let mut out = [0u8; 4096];
     let r = compose(f, &mut result, &mut w);
     if r.number != 0 {
-        refused(&mut out, r);
+        refused(rt, &mut out, r);
         return;
     }
-    let n = grants(&mut out, r);
-    let end = accesses(&mut out, n, f, &result);
-    flush(&out, end);
+    let n = grants(rt, &mut out, r);
+    let end = accesses(rt, &mut out, n, f, &result);
+    flush(rt, &out, end);
 }
 
-fn main() {
-    let mut file = io::large_buffer();
-    let r = read_all(&mut file);
-    if r.failed {
-        os::fail(b"input");
-        return;
+fn main(rt: HostRuntime) {
+    let mut file = [0u8; 65536];
+    match read_all(&mut rt.stdin(), &mut file) {
+        Ok(n) => list(&rt, &file[..n]),
+        Err(e) => fail(&rt, "input", &e),
     }
-    let n = r.count;
-    list(&file[..n]);
 }

@@ -40,17 +40,23 @@ pub fn line_at(lines: &[usize; 144], first: usize, i: usize) -> usize {
 }
 
 // A comma and the second field of the line that begins at `start`.
-pub fn name(out: &mut [u8; 4096], at: usize, f: &[u8], start: usize) -> usize
+pub fn name(
+    rt: &(impl Print + Eprint + Alloc),
+    out: &mut [u8; 4096],
+    at: usize,
+    f: &[u8],
+    start: usize,
+) -> usize
     requires { at ≤ 4097 }
     ensures { result ≤ 4097 }
 {
-    let mut n = byte(out, at, b',');
+    let mut n = byte(rt, out, at, b',');
     if start >= f.len() {
         return n;
     }
     let mut i = start + 2;
     while i < f.len() && f[i] != b',' {
-        n = byte(out, n, f[i]);
+        n = byte(rt, out, n, f[i]);
         i += 1;
     }
     n

@@ -6,45 +6,45 @@
 ghost use Rattle.std.specs.Prelude.{◌≤◌, length};
 ghost use Rattle.names.specs.Entries.{Sound};
 
-use libc::STDOUT_FILENO;
 use lines::text::piece_end;
 use name_index::{Found, Lookup};
 use names::look_member;
 use reading::{Reading, read_policy};
 use state::State;
+use std::fs::File;
+use std::io::Read;
+use std::rt::Files;
+use std::{env, io};
 
 const LF: u8 = b'\n';
 
-fn part(n: u64) {
-    io::write_all(STDOUT_FILENO, &[b',']);
-    io::print_decimal(STDOUT_FILENO, n);
+// So many bytes of a file are read.
+const MOST: u64 = 65536;
+
+fn part(rt: &impl Print, n: u64) -> io::Result<()> {
+    print!(rt; ",{n}")
 }
 
-fn print_refusal(name: &[u8], r: Reading) {
-    io::write_all(STDOUT_FILENO, name);
-    io::write_all(STDOUT_FILENO, b",refused");
-    part(r.number as u64);
-    part(r.line as u64);
-    part(r.place as u64);
-    io::write_all(STDOUT_FILENO, &[LF]);
+fn print_refusal(rt: &impl Print, name: &str, r: Reading) -> io::Result<()> {
+    print!(rt; "{name},refused")?;
+    part(rt, u64::from(r.number))?;
+    part(rt, r.line as u64)?;
+    part(rt, r.place as u64)?;
+    println!(rt)
 }
 
-fn print_lookup(name: &[u8], line: &[u8], l: Lookup) {
-    io::write_all(STDOUT_FILENO, name);
-    io::write_all(STDOUT_FILENO, &[b',']);
-    io::write_all(STDOUT_FILENO, line);
-    let found = l.found;
-    match found {
+fn print_lookup(rt: &impl Print, name: &str, line: &[u8], l: Lookup) -> io::Result<()> {
+    print!(rt; "{name},")?;
+    rt.write_all(line)?;
+    match l.found {
         Found::At(m) => {
-            io::write_all(STDOUT_FILENO, b",found");
-            part(m as u64);
+            print!(rt; ",found")?;
+            part(rt, m as u64)?;
         }
-        Found::Nothing => {
-            io::write_all(STDOUT_FILENO, b",none");
-        }
+        Found::Nothing => print!(rt; ",none")?,
     }
-    part(l.read as u64);
-    io::write_all(STDOUT_FILENO, &[LF]);
+    part(rt, l.read as u64)?;
+    println!(rt)
 }
 
 // A sort's number by its letter; any letter but S and O is taken for A.
@@ -59,29 +59,42 @@ fn sort_of(letter: u8) -> u8 {
 }
 
 // Looks up what a line asks for; a line that is too short asks for nothing.
-fn look_line<'a>(name: &[u8], f: &'a [u8], st: State, line: &'a [u8])
+fn look_line<'a>(
+    rt: &impl Print,
+    name: &str,
+    f: &'a [u8],
+    st: State,
+    line: &'a [u8],
+) -> io::Result<()>
     requires { Sound f.now st.starts st.ends st.tags st.counts }
 {
     let n = line.len();
     if n < 2 {
-        return;
+        return Ok(());
     }
     let s = sort_of(line[0]);
     let l = look_member(f, &st.starts, &st.ends, &st.tags, st.counts, s, line, 2, n);
-    print_lookup(name, line, l);
+    print_lookup(rt, name, line, l)
 }
 
 // Looks up what the lines of t ask for, in the state of the policy f.
-fn look_lines<'a>(name: &[u8], f: &'a [u8], st: State, t: &'a [u8])
+fn look_lines<'a>(
+    rt: &impl Print,
+    name: &str,
+    f: &'a [u8],
+    st: State,
+    t: &'a [u8],
+) -> io::Result<()>
     requires { Sound f.now st.starts st.ends st.tags st.counts }
 {
     let to = t.len();
     let mut at = 0;
     while at < to {
         let end = piece_end(t, at, to, LF);
-        look_line(name, f, st, &t[at..end]);
+        look_line(rt, name, f, st, &t[at..end])?;
         at = end + 1;
     }
+    Ok(())
 }
 
 // Where the policy ends: behind its E line, or with the text.
@@ -103,39 +116,32 @@ fn policy_end(t: &[u8]) -> usize
     to
 }
 
-fn looked(name: &[u8], t: &[u8]) {
+fn looked(rt: &impl Print, name: &str, t: &[u8]) -> io::Result<()> {
     let end = policy_end(t);
     let mut w = [0u8; 8192];
     let r = read_policy(&t[..end], &mut w);
     if r.number != 0 {
-        print_refusal(name, r);
-        return;
+        return print_refusal(rt, name, r);
     }
-    look_lines(name, &t[..end], r.state, &t[end..]);
+    look_lines(rt, name, &t[..end], r.state, &t[end..])
 }
 
-// What is beyond the buffer is not read.
-fn text(name: &[u8], fd: i32) {
-    let mut file = io::large_buffer();
-    let n = io::read_full(fd, &mut file);
-    looked(name, &file[..n]);
+fn text(rt: &(impl Print + AllocGlobal), name: &str, file: impl Read + Drop) -> io::Result<()> {
+    let mut text = Vec::new(rt.alloc());
+    file.take(MOST).read_to_end(&mut text)?;
+    looked(rt, name, &text)
 }
 
-fn file(i: usize) {
-    let mut name = io::buffer();
-    let n = os::arg(i, &mut name);
-    let fd = os::open_read(&name[..n]);
-    if fd < 0 {
-        os::fail(&name[..n]);
-        return;
+fn file<R: Files + Print + Eprint + AllocGlobal>(rt: &R, name: &str) -> io::Result<()> {
+    match File::open(rt, name) {
+        Ok(file) => text(rt, name, file),
+        Err(e) => eprintln!(rt; "{name}: {e}"),
     }
-    text(&name[..n], fd);
-    libc::close(fd);
 }
 
-fn main() {
-    let n = os::arg_count();
-    for i in 1..n {
-        file(i);
+fn main(rt: HostRuntime) -> io::Result<()> {
+    for name in env::args(&rt)?.skip(1) {
+        file(&rt, name.as_str())?;
     }
+    Ok(())
 }

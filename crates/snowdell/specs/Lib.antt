@@ -1,3 +1,2 @@
 pub mod Returned
-pub mod Handed
 pub mod Promised

@@ -2,8 +2,6 @@
 // every byte string of any length. Compose and Decide say besides what demand 3 asks of the answers that they give.
 #![tactic(auto)]
 
-pub mod exports;
-
 ghost use Rattle.std.specs.Prelude.{◌≡◌};
 ghost use Rattle.engine.specs.Calls as Calls;
 ghost use Rattle.snowdell.specs.Promised.{Promised, compose_says, decide_says};
