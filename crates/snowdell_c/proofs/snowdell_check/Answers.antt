@@ -4,7 +4,10 @@ use Rattle.snowdell_c.proofs.snowdell_check.Goals as goal
 
 pub returns-then-numbers-lt6 : goal.returns-then-numbers-lt6
 returns-then-numbers-lt6 c =
-    record { value = returns_no_room _ _ c.if-numbers-lt6.true; numbers_after = hands_nothing _ _ c.if-numbers-lt6.true }
+    record {
+      value = returns_no_room _ _ c.if-numbers-lt6.true;
+      numbers_after = hands_nothing _ _ c.if-numbers-lt6.true;
+    }
 
 pub returns : goal.returns
 returns c =
