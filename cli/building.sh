@@ -45,9 +45,16 @@ shown() {
     printf '%s' "$shown"
 }
 
-# Is there a file or folder among these of the repository for which a test of `find` holds? SOURCE.. TEST..
+# Is there a file or folder among these of the repository for which a test of `find` holds? SOURCE.. TEST.. What rt keeps in a
+# crate's out/ is no source; nor is the crate's folder, which changes when rt makes that.
 any_source() {
-    [ -n "$(cd "$root" && exec find "$@" -print -quit 2>/dev/null)" ]
+    local sources=()
+    while [[ $1 != [-\(]* ]]; do
+        sources+=("$1")
+        shift
+    done
+    [ -n "$(cd "$root" && exec find "${sources[@]}" -path 'crates/*/out' -prune -o \
+        ! \( -type d -path 'crates/*' ! -path 'crates/*/*' \) \( "$@" \) -print -quit 2>/dev/null)" ]
 }
 
 list_is_fresh() {
@@ -88,8 +95,16 @@ lock() {
 
 unlock() { exec 9>&-; }
 
-# Of a build's output: the lines of rt, which are one a crate, or nothing.
-crates() { LC_ALL=C grep -a --line-buffered '^rt: ' >&2; }
+# Of a build's output: a line for each crate that is proved, or nothing.
+crates() {
+    local LC_ALL=C line crate=''
+    while IFS= read -r line; do
+        case $line in
+        'crate '*:*) crate=${line#crate } ;;
+        'logic=proved '*) echo "rt: ${crate%%:*} proved" >&2 ;;
+        esac
+    done
+}
 nothing() { cat >/dev/null; }
 
 # Builds a file by a command, of whose output SHOW leaves something, for standard error: FILE LOG SHOW COMMAND..
@@ -115,14 +130,14 @@ build_list() {
     lock
     if ! list_is_fresh; then
         say "proving and building the listing program; the first time it takes minutes"
-        build "$list" build-list.log crates rt check list
+        build "$list" build-list.log crates tools/build list
         settle "$list" "${engine_sources[@]}"
     fi
     unlock
 }
 
 build_library() {
-    build "$library" build-library.log nothing rt staticlib snowdell
+    build "$library" build-library.log nothing tools/build library
     settle "$library" "${engine_sources[@]}"
 }
 

@@ -1,5 +1,5 @@
 //! Links the engine's static library, `libsnowdell.a`. SNOWDELL_LIB names its folder; without it, it is that of
-//! `rt staticlib snowdell` in the repository. Where the library is missing this says what to do: `cargo check` and `cargo doc`
+//! `tools/build library` in the repository. Where the library is missing this says what to do: `cargo check` and `cargo doc`
 //! work without it, and what has to be linked then fails below that word.
 
 use std::env::var_os;
@@ -15,7 +15,7 @@ fn main() {
     println!("cargo:rustc-link-lib=static=snowdell");
     if !folder.join(LIBRARY).is_file() {
         println!(
-            "cargo:warning={LIBRARY} is not in {}: run `rt staticlib snowdell` at the root of the repository, \
+            "cargo:warning={LIBRARY} is not in {}: run `tools/build library` at the root of the repository, \
              or set SNOWDELL_LIB to the folder that has it",
             folder.display()
         );

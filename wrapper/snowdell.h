@@ -1,4 +1,4 @@
-/* Snowdell's calls, for C (from C99) and C++ (from C++11). Link libsnowdell.a: `rt staticlib snowdell` builds it, and an
+/* Snowdell's calls, for C (from C99) and C++ (from C++11). Link libsnowdell.a: `tools/build library` builds it, and an
  * installed one is found by pkg-config as `snowdell`. It is for x86-64 Linux and needs memcpy and memset of a C library,
  * nothing else.
  *

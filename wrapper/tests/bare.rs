@@ -50,7 +50,7 @@ fn where_the_library_is_missing_it_is_said_what_to_do() {
     let folder = target("no-library");
     let missing = |command: &str, test: &str| cargo(command, test).env("SNOWDELL_LIB", &folder).output().expect("cargo");
     let word = format!(
-        "warning: snowdell@{}: libsnowdell.a is not in {}: run `rt staticlib snowdell` at the root of the repository, \
+        "warning: snowdell@{}: libsnowdell.a is not in {}: run `tools/build library` at the root of the repository, \
          or set SNOWDELL_LIB to the folder that has it\n",
         env!("CARGO_PKG_VERSION"),
         folder.display()
