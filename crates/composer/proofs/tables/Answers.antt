@@ -29,13 +29,12 @@ fill_order-requires-3 c =
     }
 
 pub loop-i-init : goal.loop-i-init
-loop-i-init c =
-    (
-      omega arith,
-      refl,
-      put_none 12288 (λ i. get_or c.args.marks.now i 0) c.fill_order-3.new.t
-          (omega (arith, c.fill_order-3.auto.t, c.fill_order-2.auto.t, c.fill_order.auto.t, c.requires.t_len.0)),
-    )
+loop-i-init c = (
+  omega arith,
+  refl,
+  put_none 12288 (λ i. get_or c.args.marks.now i 0) c.fill_order-3.new.t
+      (omega (arith, c.fill_order-3.auto.t, c.fill_order-2.auto.t, c.fill_order.auto.t, c.requires.t_len.0)),
+)
 
 pub bounds-marks-i : goal.bounds-marks-i
 bounds-marks-i c = omega (arith, c.requires.t_len.1)
@@ -46,8 +45,7 @@ bounds-t-i c =
 
 pub loop-i-preserved : goal.loop-i-preserved
 loop-i-preserved c =
-    let loop = c.loop-i in
-    (
+    let loop = c.loop-i in (
       omega arith,
       length-set loop.t _ _ ∙ loop.invariant.1,
       put_more 12288 loop.i (λ i. get_or c.args.marks.now i 0) c.fill_order-3.new.t loop.t _

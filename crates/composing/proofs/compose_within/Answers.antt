@@ -15,11 +15,10 @@ returns-then-read-ne0 c =
     }
 
 pub run_policy-rounds-requires : goal.run_policy-rounds-requires
-run_policy-rounds-requires c =
-    (
-      subst (λ n. 65536 ≤ n) (sym c.read_within-read.auto.w) c.requires.1,
-      record { file = c.args.f.now; good = c.read_within-read.ensures.read_as.yes c.if-read-ne0.false },
-    )
+run_policy-rounds-requires c = (
+  subst (λ n. 65536 ≤ n) (sym c.read_within-read.auto.w) c.requires.1,
+  record { file = c.args.f.now; good = c.read_within-read.ensures.read_as.yes c.if-read-ne0.false },
+)
 
 pub returns : goal.returns
 returns c =
@@ -39,8 +38,7 @@ pub copy-requires : goal.copy-requires
 copy-requires c =
     let accesses = c.accesses-n in
     let read-within = c.read_within-read in
-    let args = c.args in
-    (
+    let args = c.args in (
       in_memory args.f.now args.res.now args.w.now c.requires.0 c.requires.1 read-within.new.w read-within.auto.w read-within.result
           (read-within.ensures.read_as.yes c.if-read-ne0.false) accesses.result (accesses.ensures ∙ ap total c.counts_of.ensures) c.run_policy-rounds.new.w
           c.run_policy-rounds.auto.w,

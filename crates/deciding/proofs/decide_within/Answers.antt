@@ -17,11 +17,10 @@ pub ask_state-asked-requires : goal.ask_state-asked-requires
 ask_state-asked-requires c = (c.read_within-file.ensures.read_as.yes c.if-file-ne0.false).stands.sound
 
 pub run_policy-rounds-requires : goal.run_policy-rounds-requires
-run_policy-rounds-requires c =
-    (
-      subst (λ n. 65536 ≤ n) (sym c.read_within-file.auto.w) c.requires,
-      record { file = c.args.f.now; good = c.read_within-file.ensures.read_as.yes c.if-file-ne0.false },
-    )
+run_policy-rounds-requires c = (
+  subst (λ n. 65536 ≤ n) (sym c.read_within-file.auto.w) c.requires,
+  record { file = c.args.f.now; good = c.read_within-file.ensures.read_as.yes c.if-file-ne0.false },
+)
 
 pub bounds-w-at : goal.bounds-w-at
 bounds-w-at c =

@@ -13,14 +13,13 @@ use Rattle.expressions.proofs.ReaderWays.{m_past, m_next, e_bad, e_in, e_join, b
 use Rattle.expressions.proofs.+body_expression_factor_filling_more_overridden_part_primary_template.Goals as goal
 
 pub body-part-requires : goal.body-part-requires
-body-part-requires t c =
-    (
-      search rules,
-      (
-        (c.requires.sound.0, omega (arith, c.requires.sound.2), c.requires.sound.3),
-        bound_more _ _ _ _ _ _ _ _ c.requires.bound _ _ c.put_first-s.ensures c.put_first-e.ensures c.requires.sound.1 (omega (arith, c.requires.sound.2)),
-      ),
-    )
+body-part-requires t c = (
+  search rules,
+  (
+    (c.requires.sound.0, omega (arith, c.requires.sound.2), c.requires.sound.3),
+    bound_more _ _ _ _ _ _ _ _ c.requires.bound _ _ c.put_first-s.ensures c.put_first-e.ensures c.requires.sound.1 (omega (arith, c.requires.sound.2)),
+  ),
+)
 
 pub body-returns : goal.body-returns
 body-returns t c =
@@ -29,11 +28,10 @@ body-returns t c =
     c.part.ensures
 
 pub expression-more-requires : goal.expression-more-requires
-expression-more-requires t c =
-    (
-      search rules,
-      ((c.requires.sound.0, e_in _ _ _ _ _ _ _ c.in-Good.is c.factor-v.ensures, omega (arith, c.requires.sound.2, c.factor-v.auto.m)), c.requires.bound),
-    )
+expression-more-requires t c = (
+  search rules,
+  ((c.requires.sound.0, e_in _ _ _ _ _ _ _ c.in-Good.is c.factor-v.ensures, omega (arith, c.requires.sound.2, c.factor-v.auto.m)), c.requires.bound),
+)
 
 pub expression-returns-in-Bad : goal.expression-returns-in-Bad
 expression-returns-in-Bad t c = e_bad _ _ _ _ _ _ _ _ c.in-Bad.is c.factor-v.ensures
@@ -75,18 +73,17 @@ more-returns-then-kind-eq0 t c =
     m_end _ _ _ _ _ _ _ _ c.loop-counts.invariant.1 (seen sign_code c.peek.ensures c.sign-kind.ensures c.if-kind-eq0.true)
 
 pub more-factor-v-requires : goal.more-factor-v-requires
-more-factor-v-requires t c =
+more-factor-v-requires t c = (
+  search rules,
+  (
     (
-      search rules,
-      (
-        (
-          c.requires.sound.0,
-          (let i = m_in _ _ _ _ _ _ _ _ c.loop-counts.invariant.1 c.peek.ensures c.sign-kind.ensures c.if-kind-eq0.false in omega arith),
-          omega (arith, c.requires.sound.2, c.loop-counts.invariant.0),
-        ),
-        c.requires.bound,
-      ),
-    )
+      c.requires.sound.0,
+      (let i = m_in _ _ _ _ _ _ _ _ c.loop-counts.invariant.1 c.peek.ensures c.sign-kind.ensures c.if-kind-eq0.false in omega arith),
+      omega (arith, c.requires.sound.2, c.loop-counts.invariant.0),
+    ),
+    c.requires.bound,
+  ),
+)
 
 pub more-returns-in-Bad : goal.more-returns-in-Bad
 more-returns-in-Bad t c =
@@ -100,12 +97,11 @@ more-loop-counts-smaller t c =
     omega arith
 
 pub more-loop-counts-preserved : goal.more-loop-counts-preserved
-more-loop-counts-preserved t c =
-    (
-      c.put-q.auto.m ∙ c.factor-v.auto.m ∙ c.loop-counts.invariant.0,
-      m_next _ _ _ _ _ _ _ _ c.loop-counts.invariant.1 c.peek.ensures c.sign-kind.ensures c.if-kind-eq0.false _ _ c.in-Good.is
-          c.factor-v.ensures c.put-q.ensures,
-    )
+more-loop-counts-preserved t c = (
+  c.put-q.auto.m ∙ c.factor-v.auto.m ∙ c.loop-counts.invariant.0,
+  m_next _ _ _ _ _ _ _ _ c.loop-counts.invariant.1 c.peek.ensures c.sign-kind.ensures c.if-kind-eq0.false _ _ c.in-Good.is
+      c.factor-v.ensures c.put-q.ensures,
+)
 
 pub overridden-overflow_add-i : goal.overridden-overflow_add-i
 overridden-overflow_add-i t c =
@@ -113,18 +109,17 @@ overridden-overflow_add-i t c =
     omega arith
 
 pub overridden-part-v2-requires : goal.overridden-part-v2-requires
-overridden-part-v2-requires t c =
+overridden-part-v2-requires t c = (
+  search rules,
+  (
     (
-      search rules,
-      (
-        (
-          c.requires.sound.0,
-          (let g = g_in _ _ _ _ _ _ _ c.in-Good.is c.part-v.ensures (lit< tt) in omega arith),
-          omega (arith, c.requires.sound.2, c.part-v.auto.m),
-        ),
-        c.requires.bound,
-      ),
-    )
+      c.requires.sound.0,
+      (let g = g_in _ _ _ _ _ _ _ c.in-Good.is c.part-v.ensures (lit< tt) in omega arith),
+      omega (arith, c.requires.sound.2, c.part-v.auto.m),
+    ),
+    c.requires.bound,
+  ),
+)
 
 pub overridden-overflow_add-j : goal.overridden-overflow_add-j
 overridden-overflow_add-j t c =
@@ -132,18 +127,17 @@ overridden-overflow_add-j t c =
     omega (arith)
 
 pub overridden-part-v3-requires : goal.overridden-part-v3-requires
-overridden-part-v3-requires t c =
+overridden-part-v3-requires t c = (
+  omega (arith, c.requires.sound),
+  (
     (
-      omega (arith, c.requires.sound),
-      (
-        (
-          c.requires.sound.0,
-          (let g = g_in _ _ _ _ _ _ _ c.in-Good-k2.is c.part-v2.ensures (lit< tt) in omega arith),
-          omega (arith, c.requires.sound.2, c.part-v.auto.m, c.part-v2.auto.m),
-        ),
-        c.requires.bound,
-      ),
-    )
+      c.requires.sound.0,
+      (let g = g_in _ _ _ _ _ _ _ c.in-Good-k2.is c.part-v2.ensures (lit< tt) in omega arith),
+      omega (arith, c.requires.sound.2, c.part-v.auto.m, c.part-v2.auto.m),
+    ),
+    c.requires.bound,
+  ),
+)
 
 pub overridden-overflow_add-result : goal.overridden-overflow_add-result
 overridden-overflow_add-result t c =
@@ -248,19 +242,18 @@ pub template-returns-then-peek-ne46 : goal.template-returns-then-peek-ne46
 template-returns-then-peek-ne46 t c = t_open _ _ _ _ _ _ _ c.in-Good.is c.read_name.ensures (byte_isnt c.peek.ensures c.if-peek-ne46.true)
 
 pub template-body-v-requires : goal.template-body-v-requires
-template-body-v-requires t c =
+template-body-v-requires t c = (
+  search rules,
+  (
     (
-      search rules,
-      (
-        (
-          c.requires.sound.0,
-          t_in _ _ c.in-Good.is c.read_name.ensures,
-          is_in_lem 46 c.args.t.now c.in-Good.to (byte_is c.peek.ensures c.if-peek-ne46.false) (lit< tt),
-          c.requires.sound.2,
-        ),
-        c.requires.bound,
-      ),
-    )
+      c.requires.sound.0,
+      t_in _ _ c.in-Good.is c.read_name.ensures,
+      is_in_lem 46 c.args.t.now c.in-Good.to (byte_is c.peek.ensures c.if-peek-ne46.false) (lit< tt),
+      c.requires.sound.2,
+    ),
+    c.requires.bound,
+  ),
+)
 
 pub template-overflow_add-i : goal.template-overflow_add-i
 template-overflow_add-i t c =
@@ -268,18 +261,17 @@ template-overflow_add-i t c =
     omega (arith)
 
 pub template-filling-requires : goal.template-filling-requires
-template-filling-requires t c =
+template-filling-requires t c = (
+  search rules,
+  (
     (
-      search rules,
-      (
-        (
-          c.requires.sound.0,
-          (let g = g_in _ _ _ _ _ _ _ c.in-Good-k.is c.body-v.ensures (lit< tt) in omega arith),
-          omega (arith, c.requires.sound.2, c.body-v.auto.m),
-        ),
-        bound_fewer _ _ c.requires.bound (omega arith),
-      ),
-    )
+      c.requires.sound.0,
+      (let g = g_in _ _ _ _ _ _ _ c.in-Good-k.is c.body-v.ensures (lit< tt) in omega arith),
+      omega (arith, c.requires.sound.2, c.body-v.auto.m),
+    ),
+    bound_fewer _ _ c.requires.bound (omega arith),
+  ),
+)
 
 pub template-returns-in-Bad : goal.template-returns-in-Bad
 template-returns-in-Bad t c = t_none _ _ _ _ _ _ _ c.in-Bad.is c.read_name.ensures

@@ -24,12 +24,11 @@ pub loop-counts-smaller-then-is_settled : goal.loop-counts-smaller-then-is_settl
 loop-counts-smaller-then-is_settled c = omega (arith, xs_past _ _ _ _ _ _ c.loop-counts.invariant.1 c.in-Scoped.is c.suffix.ensures)
 
 pub loop-counts-preserved-then-is_settled : goal.loop-counts-preserved-then-is_settled
-loop-counts-preserved-then-is_settled c =
-    (
-      c.put-q.auto.m ∙ c.loop-counts.invariant.0,
-      xs_next _ _ _ _ _ _ c.loop-counts.invariant.1 c.in-Scoped.is c.suffix.ensures _
-          (c.put-q.ensures ∙ settled_named _ _ _ _ _ _ (sym c.is_settled.ensures ∙ c.if-is_settled.true)),
-    )
+loop-counts-preserved-then-is_settled c = (
+  c.put-q.auto.m ∙ c.loop-counts.invariant.0,
+  xs_next _ _ _ _ _ _ c.loop-counts.invariant.1 c.in-Scoped.is c.suffix.ensures _
+      (c.put-q.ensures ∙ settled_named _ _ _ _ _ _ (sym c.is_settled.ensures ∙ c.if-is_settled.true)),
+)
 
 pub put_name-q-requires : goal.put_name-q-requires
 put_name-q-requires c =
@@ -40,11 +39,10 @@ pub loop-counts-smaller : goal.loop-counts-smaller
 loop-counts-smaller c = omega (arith, xs_past _ _ _ _ _ _ c.loop-counts.invariant.1 c.in-Scoped.is c.suffix.ensures)
 
 pub loop-counts-preserved : goal.loop-counts-preserved
-loop-counts-preserved c =
-    (
-      c.put_name-q.auto.m ∙ c.loop-counts.invariant.0,
-      xs_next _ _ _ _ _ _ c.loop-counts.invariant.1 c.in-Scoped.is c.suffix.ensures _ c.put_name-q.ensures,
-    )
+loop-counts-preserved c = (
+  c.put_name-q.auto.m ∙ c.loop-counts.invariant.0,
+  xs_next _ _ _ _ _ _ c.loop-counts.invariant.1 c.in-Scoped.is c.suffix.ensures _ c.put_name-q.ensures,
+)
 
 pub returns : goal.returns
 returns c =

@@ -21,9 +21,16 @@ overflow_add-base c =
     omega (arith, c.if-s-eq0.false, slot_known _ _ _ _ _ _ _ _ c.loop-read.invariant c.requires.1, c.requires.0.in_starts)
 
 pub is_name-requires : goal.is_name-requires
-is_name-requires c =
-    (part_one _ _ _ _ _ _ c.requires.0 (omega arith) (omega (arith, c.if-s-eq0.false, slot_known _ _ _ _ _ _ _ _ c.loop-read.invariant
-    c.requires.1)), c.requires.2, c.requires.3)
+is_name-requires c = (
+  part_one _ _ _ _ _ _ c.requires.0 (omega arith) (omega (
+    arith,
+    c.if-s-eq0.false,
+    slot_known _ _ _ _ _ _ _ _ c.loop-read.invariant
+        c.requires.1,
+  )),
+  c.requires.2,
+  c.requires.3,
+)
 
 pub returns-then-is_name : goal.returns-then-is_name
 returns-then-is_name c =

@@ -30,8 +30,7 @@ returns-then-not-is_file c =
     }
 
 pub loop-at-init : goal.loop-at-init
-loop-at-init c =
-    (
+loop-at-init c = (
   refl,
   is_read _ (sym c.is_file.ensures ∙ c.if-not-is_file.false),
   at_start _ _ _ _ (sym c.is_file.ensures ∙ c.if-not-is_file.false) (c.empty-st.ensures _ _),

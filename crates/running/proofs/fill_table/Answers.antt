@@ -21,15 +21,15 @@ tables-requires c =
     record {
       t_len = (c.requires.t_len.0, c.requires.t_len.2);
       subjects_len_bound = (
-          omega (arith, length-take (wide.result - 0) a.tags.now, c.requires.subjects_bound.0),
-          omega (arith, length-take (64 + wide2.result - 64) (drop 64 a.tags.now), c.requires.subjects_bound.1),
-          omega (arith, length-take (128 + wide3.result - 128) (drop 128 a.tags.now), c.requires.subjects_bound.2),
-        );
+        omega (arith, length-take (wide.result - 0) a.tags.now, c.requires.subjects_bound.0),
+        omega (arith, length-take (64 + wide2.result - 64) (drop 64 a.tags.now), c.requires.subjects_bound.1),
+        omega (arith, length-take (128 + wide3.result - 128) (drop 128 a.tags.now), c.requires.subjects_bound.2),
+      );
       ordered = (
-          subst (λ (k : ℕ). Ordered (parents_of (take k a.tags.now))) (sym s) (c.requires.ordered subject),
-          subst (λ (k : ℕ). Ordered (parents_of (take k (drop 64 a.tags.now)))) (sym o) (c.requires.ordered object),
-          subst (λ (k : ℕ). Ordered (parents_of (take k (drop 128 a.tags.now)))) (sym x) (c.requires.ordered action),
-        );
+        subst (λ (k : ℕ). Ordered (parents_of (take k a.tags.now))) (sym s) (c.requires.ordered subject),
+        subst (λ (k : ℕ). Ordered (parents_of (take k (drop 64 a.tags.now)))) (sym o) (c.requires.ordered object),
+        subst (λ (k : ℕ). Ordered (parents_of (take k (drop 128 a.tags.now)))) (sym x) (c.requires.ordered action),
+      );
     }
 
 pub returns : goal.returns

@@ -14,8 +14,7 @@ bounds-tags-i c = omega (arith, c.requires)
 
 pub loop-i-preserved : goal.loop-i-preserved
 loop-i-preserved c =
-    let loop = c.loop-i in
-    (
+    let loop = c.loop-i in (
       omega arith,
       length-set loop.here _ _ ∙ loop.invariant.1,
       one_more c.args.tags.now loop.here loop.i (omega (arith, loop.invariant.1)) loop.invariant.2,

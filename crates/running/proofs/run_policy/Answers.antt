@@ -31,5 +31,5 @@ compose-requires c =
       sized = is_sized f a.w.now a.r G c.counts_of-n.result c.counts_of-n.ensures;
       in_bounds = (c.requires.0, c.fill_rules.auto.b, G.few_grants, G.goal.limited);
       ready = is_ready f a.w.now a.r G c.counts_of-n.result c.counts_of-n.ensures c.wide-many.result c.wide-many.ensures.0 c.fill_rules.new.b
-            c.fill_rules.ensures _ c.fill_table.auto.t;
+          c.fill_rules.ensures _ c.fill_table.auto.t;
     }

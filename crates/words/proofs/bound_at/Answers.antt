@@ -20,9 +20,13 @@ bounds-lasts-k c =
 
 pub is_same-requires : goal.is_same-requires
 is_same-requires c =
-    let test = c.loop-i-test in
-    (c.requires.1, c.requires.2, c.requires.0.ordered _ (omega (arith, test.true)) (omega arith), c.requires.0.in_file _ (omega (arith, test.true))
-    (omega arith))
+    let test = c.loop-i-test in (
+      c.requires.1,
+      c.requires.2,
+      c.requires.0.ordered _ (omega (arith, test.true)) (omega arith),
+      c.requires.0.in_file _ (omega (arith, test.true))
+          (omega arith),
+    )
 
 pub returns-then-is_same : goal.returns-then-is_same
 returns-then-is_same c = search_found _ _ _ _ c.loop-i.invariant (search rules) (sym c.is_same.ensures ∙ c.if-is_same.true)
