@@ -178,7 +178,8 @@ pub fn number_at(f: &[u8], p: Part) -> Number
         return Number::Wrong;
     }
     if f[from] == 48 {
-        if to - from == 1 {
+        let is_alone = to - from == 1;
+        if is_alone {
             return Number::Is(0);
         }
         return Number::Wrong;

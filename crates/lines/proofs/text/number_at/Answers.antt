@@ -20,9 +20,9 @@ returns-then-to-from-gt4 c =
     let a = c.args in
     sym (number_long (slice a.p.from a.p.to a.f.now) (omega (arith, length-slice a.p.from a.p.to a.f.now (omega arith))))
 
-pub returns-then-to-from-eq1 : goal.returns-then-to-from-eq1
+pub returns-then-is_alone : goal.returns-then-is_alone
 unfolding numeral
-returns-then-to-from-eq1 c =
+returns-then-is_alone c =
     let a = c.args in
     let e = part_one a.f.now a.p.from a.p.to (omega arith) (omega arith) in
     sym (rw (e, c.if-f-from-eq48.true) number_nought)
@@ -34,7 +34,7 @@ returns-then-f-from-eq48 c =
     let w = slice a.p.from a.p.to a.f.now in
     let n = length-slice a.p.from a.p.to a.f.now (omega arith) in
     let g : get_or w 0 0 ≡ get_or a.f.now a.p.from 0 = rw (part_get_or a.f.now a.p.from a.p.to 0 (omega arith), add-zero a.p.from) in
-    sym (number_zero w (λ q. c.if-to-from-eq1.false (sym n ∙ q)) (g ∙ c.if-f-from-eq48.true))
+    sym (number_zero w (λ q. c.if-is_alone.false (sym n ∙ q)) (g ∙ c.if-f-from-eq48.true))
 
 pub loop-i-init : goal.loop-i-init
 loop-i-init c =
