@@ -87,7 +87,8 @@ pub fn judge_expression<'a>(
                 nodes: nodes,
             },
             Place::Nowhere => {
-                if 64 < nodes.operators {
+                let too_many = 64 < nodes.operators;
+                if too_many {
                     return Goal {
                         number: 14,
                         place: 0,
