@@ -335,7 +335,8 @@ pub fn read_policy(f: &[u8], w: &mut [u8]) -> Reading
             }
         }
     }
-    if st.group != 7 {
+    let unended = st.group != 7;
+    if unended {
         return Reading {
             number: 9,
             line: 0,

@@ -1,5 +1,5 @@
 use borrow.Author.Rules.{rules}
-use mathlib.Core.Path.{refl, sym, ap, subst, ◌∙◌}
+use mathlib.Core.Path.{◌≡◌, refl, sym, ap, subst, ◌∙◌}
 use Prim.Native.Nat.{◌-◌}
 use native.Mathlib.Omega.{arith}
 use lib.ListN.{length, length-set}
@@ -661,20 +661,23 @@ loop-at-preserved c =
       I.3,
     )
 
--- before `returns-then-st-ne7`: a file without an E line that is taken fails here
+-- before `returns-then-unended`: a file without an E line that is taken fails here
 pub returns : goal.returns
 returns c =
-    let I = c.loop-at.invariant in let R = I.2 in
+    let I = c.loop-at.invariant in
+    let R = I.2 in
+    let ended : c.loop-at.st.group ≡ 7 = omega (arith, c.if-unended.false) in
     record {
-      read_as = all_read _ _ _ _ _ _ I.1 R (let x = R.within in let y = c.loop-at-test.false in omega arith) c.if-st-ne7.false;
+      read_as = all_read _ _ _ _ _ _ I.1 R (let x = R.within in let y = c.loop-at-test.false in omega arith) ended;
       w_unchanged = I.3;
     }
 
-pub returns-then-st-ne7 : goal.returns-then-st-ne7
-returns-then-st-ne7 c =
-    let I = c.loop-at.invariant in let R = I.2 in
+pub returns-then-unended : goal.returns-then-unended
+returns-then-unended c =
+    let I = c.loop-at.invariant in
+    let R = I.2 in
     record {
       read_as = refuse_as _ _ 9 0 0 _ _ (λ z. omega arith)
-          (no_end _ _ _ _ _ _ I.1 R (let x = R.within in let y = c.loop-at-test.false in omega arith) c.if-st-ne7.true);
+          (no_end _ _ _ _ _ _ I.1 R (let x = R.within in let y = c.loop-at-test.false in omega arith) (λ e. omega (arith, e, c.if-unended.true)));
       w_unchanged = I.3;
     }
