@@ -61,7 +61,8 @@ pub fn compose(f: &[u8], res: &mut [u8], w: &mut [u8]) -> Composed
     ensures w_after { composed_of result res.new w.new ≡ Calls.compose f.now res.old w.old }
     ensures promised { Promised f.now (compose_says result res.new) }
 {
-    if res.len() < 4096 {
+    let short = res.len() < 4096;
+    if short {
         return not_composed(1, 0, 0);
     }
     if w.len() < 65536 {
