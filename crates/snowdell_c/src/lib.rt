@@ -109,7 +109,8 @@ pub extern "C" fn snowdell_decide<'a>(
     ensures numbers_after { numbers.new ≡ handed (decide_numbers (Calls.decide f.now s.now o.now a.now w.old)) numbers.old }
     ensures w_after { w.new ≡ where_room 5 numbers.old (Calls.decide f.now s.now o.now a.now w.old).memory w.old }
 {
-    if numbers.len() < 5 {
+    let short = numbers.len() < 5;
+    if short {
         return NO_ROOM;
     }
     let r = decide(f, s, o, a, w);
