@@ -566,6 +566,12 @@ module _ (number : Kind → List ℕ → Option ℕ) (xs : List (List ℕ)) (t :
         record { within = y.within; stops = λ ks u. s.1.reads ks start ∙ y.stops ks start s.0 }
 
 -- ---- templates
+-- `t:` behind the bracket lies within the text
+pub p_bound : (t : List ℕ) (at : ℕ) {r : Bool} → r ≡ (eqb (get_or t (at + 1) 0) 116 && eqb (get_or t (at + 1 + 1) 0) 58) → r ≡ true → at + 3 ≤ length t
+p_bound t at e h =
+    let v = eqb-true (get_or t (at + 1 + 1) 0) 58 (and_right (eqb (get_or t (at + 1) 0) 116) _ (sym e ∙ h)) in
+    omega (arith, is_in_lem 58 t (at + 1 + 1) v (omega arith))
+
 pub t_in : (t : List ℕ) (at : ℕ) {to : ℕ} {r : Parsed} → r ≡ Good to → Name t at r → at ≤ to
 unfolding Name
 t_in t at q y = let m = subst (Name t at) q y in omega (arith, m.past)
