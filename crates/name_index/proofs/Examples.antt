@@ -7,11 +7,11 @@ use Prim.Native.String.{String}
 use lib.ListN.{take, drop}
 use Rattle.grammar.specs.Lookup.{same}
 use Rattle.grammar.specs.Text.{text}
-use Rattle.name_index.specs.Hash.{fnv_step_lem, fnv_from, fnv, slot_of}
-use Rattle.name_index.specs.Index.{Searched, search_from, search, free_from, free_slot_lem, put, index_from, index, look_up}
+use Rattle.name_index.specs.Hash.{fnv_step, fnv_from, fnv, slot_of}
+use Rattle.name_index.specs.Index.{Searched, search_from, search, free_from, free_slot, put, index_from, index, look_up}
 
 hashes : List String → List ℕ
-unfolding fnv fnv_from fnv_step_lem
+unfolding fnv fnv_from fnv_step
 hashes l = map (λ (t : String). fnv (text t)) l
 
 -- the test table of Go's standard library, golden32a of its package hash/fnv
@@ -27,12 +27,12 @@ evaluated = refl
 
 -- four names that meet round slot 255: the first, the second and the last have that slot, the third has slot 0
 filled : drop 254 (index (map text ("c7" ∷ "h2" ∷ "n1" ∷ "q9" ∷ []))) ++ take 4 (index (map text ("c7" ∷ "h2" ∷ "n1" ∷ "q9" ∷ []))) ≡ 0 ∷ 1 ∷ 2 ∷ 3 ∷ 4 ∷ 0 ∷ []
-unfolding index index_from put free_slot_lem free_from slot_of fnv fnv_from fnv_step_lem
+unfolding index index_from put free_slot free_from slot_of fnv fnv_from fnv_step
 filled = refl
 
 -- lookups among some names
 lookups : List String → List String → List Searched
-unfolding look_up index index_from put free_slot_lem free_from search search_from slot_of fnv fnv_from fnv_step_lem same
+unfolding look_up index index_from put free_slot free_from search search_from slot_of fnv fnv_from fnv_step same
 lookups names l = map (λ (t : String). look_up (map text names) (text t)) l
 
 abbrev hit : ℕ → ℕ → Searched

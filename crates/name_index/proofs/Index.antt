@@ -12,7 +12,7 @@ use Rattle.algebra.specs.Bytes.{tally}
 use Rattle.grammar.specs.Lookup.{same, position}
 use Rattle.grammar.proofs.Lookup.{same_refl, position_fails}
 use Rattle.name_index.specs.Hash.{slot_of}
-use Rattle.name_index.specs.Index.{after, free_from, free_slot_lem, put, index_from, index, look_up, Distinct}
+use Rattle.name_index.specs.Index.{after, free_from, free_slot, put, index_from, index, look_up, Distinct}
 use Rattle.algebra.proofs.Bytes.{tally_set}
 use Rattle.name_index.proofs.Runs.{Taken, Reached, Indexes, more_taken, run_short}
 use Rattle.name_index.proofs.Hash.{slot_lt}
@@ -42,7 +42,8 @@ module _ (slots : List ℕ) (i : ℕ) where
     first zero k e t = absurd (omega (arith, run_short slots size i low k (omega arith) t))
     first (suc d) k e t = go (get_or slots (after i k) 0) refl (λ h. first d (suc k) (omega arith) (more_taken slots i k t h))
       where
-        go : (s : ℕ) → get_or slots (after i k) 0 ≡ s → (0 < get_or slots (after i k) 0 → First (free_from slots i (suc k) d)) → First (free_from slots i k (suc d))
+        go : (s : ℕ) → get_or slots (after i k) 0 ≡ s → (0 < get_or slots (after i k) 0 → First (free_from slots i (suc k) d))
+            → First (free_from slots i k (suc d))
         go zero q r = rw (free_here k d q) (record { run = t; low = omega arith; free = q })
         go (suc m) q r = let h : 0 < get_or slots (after i k) 0 = omega arith in rw (free_further k d h) (r h)
 
@@ -133,7 +134,7 @@ module _ (names : List (List ℕ)) (n : List ℕ) where
 
     -- the index with a name that was not there
     pub put_indexes : Indexes (put slots n (length names)) (names ++ (n ∷ []))
-    unfolding put free_slot_lem slots'
+    unfolding put free_slot slots'
     put_indexes = set_indexes _ (first_free slots (slot_of n) I.size (slot_lt n) (omega (arith, I.free)))
 
 -- ---- all names

@@ -34,12 +34,12 @@ unfoldable pub free_from : List ℕ → ℕ → ℕ → ℕ → ℕ
 free_from slots i k zero = k
 free_from slots i k (suc d) = elim (get_or slots (after i k) 0) [ zero ↦ k | suc m ↦ free_from slots i (suc k) d ]
 
-unfoldable pub free_slot_lem : List ℕ → List ℕ → ℕ
-free_slot_lem slots n = after (slot_of n) (free_from slots (slot_of n) 0 256)
+unfoldable pub free_slot : List ℕ → List ℕ → ℕ
+free_slot slots n = after (slot_of n) (free_from slots (slot_of n) 0 256)
 
 -- the index with the name of member m
 unfoldable pub put : List ℕ → List ℕ → ℕ → List ℕ
-put slots n m = set slots (free_slot_lem slots n) (suc m)
+put slots n m = set slots (free_slot slots n) (suc m)
 
 unfoldable pub index_from : List ℕ → ℕ → List (List ℕ) → List ℕ
 index_from slots m [] = slots

@@ -1,53 +1,70 @@
--- The index as the code holds it: names that are parts of a file, and the slots of a sort among those of others.
-use Rattle.std.specs.Prelude.{◌≡◌, List, ℕ, suc, ◌+◌, ◌≤◌, ◌<◌, length, get_or, set, take, drop}
+-- The index as the code holds it: names that are parts of a text, each with its place.
+use Rattle.std.specs.Prelude as rust
+use Rattle.std.specs.Prelude.{◌≡◌, List, map, ℕ, suc, ◌≤◌, ◌<◌, length, get_or}
 use Rattle.std.proofs.Math.Option.{Option, none, some}
 use Rattle.std.proofs.Math.Seq.{slice}
-use Rattle.algebra.specs.Lists.{tab_from}
 use Rattle.grammar.specs.Lookup.{same, position}
-use Rattle.name_index.specs.Index.{Searched, free_slot_lem, index, look_up, Distinct}
-use Rattle.name_index.specs.declared.Found.{Found}
-use Rattle.name_index.specs.declared.Found.TheVariants.{At, Nothing}
+use Rattle.name_index.specs.Index.{Searched, index, look_up, Distinct}
+use Rattle.name_index.specs.declared.Place.{Place}
+use Rattle.name_index.specs.declared.Entry.{Entry}
 use Rattle.name_index.specs.declared.Lookup.{Lookup}
 
--- name i is the part of the file f from starts[i] up to ends[i]
-abbrev pub name_at : List ℕ → List ℕ → List ℕ → ℕ → List ℕ
-name_at f starts ends i = slice (get_or starts i 0) (get_or ends i 0) f
+-- ---- places
 
--- a group of names: so many from the base on
-abbrev pub names_at : List ℕ → List ℕ → List ℕ → ℕ → ℕ → List (List ℕ)
-names_at f starts ends base count = tab_from base count (name_at f starts ends)
+-- the name that stands at a place of the text
+abbrev pub name_at : List ℕ → Place → List ℕ
+name_at t p = slice p.from p.to t
 
--- a group lies within the arrays, and its names within the file
-pub record Parts (f starts ends : List ℕ) (base count : ℕ) : Type 0 where
-  pub in_starts : base + count ≤ length starts
-  pub in_ends : base + count ≤ length ends
-  pub ordered : (i : ℕ) → i < base + count → base ≤ i → get_or starts i 0 ≤ get_or ends i 0
-  pub in_file : (i : ℕ) → i < base + count → base ≤ i → get_or ends i 0 ≤ length f
+-- the names that stand at some places of the text
+abbrev pub names_at : List ℕ → List Place → List (List ℕ)
+names_at t ps = map (name_at t) ps
 
--- the 256 slots from `at` on
-abbrev pub slots_at_lem : ℕ → List ℕ → List ℕ
-slots_at_lem at slots = take 256 (drop at slots)
+-- a place lies within the text
+pub record InText (t : List ℕ) (p : Place) : Type 0 where
+  pub ordered : p.from ≤ p.to
+  pub inside : p.to ≤ length t
 
--- these slots lie within the array, and no member is beyond the group
-pub record Slots (slots : List ℕ) (at count : ℕ) : Type 0 where
-  pub within : at + 256 ≤ length slots
-  pub known : (i : ℕ) → i < 256 → get_or slots (at + i) 0 ≤ count
+-- what stands past the end of some places
+abbrev pub no_place : Place
+no_place = record { from = 0; to = 0 }
 
--- the 256 slots from `at` on are the index of some names, which are distinct and at most 64
-pub record Indexed (slots : List ℕ) (at : ℕ) (names : List (List ℕ)) : Type 0 where
-  pub within : at + 256 ≤ length slots
-  pub made : slots_at_lem at slots ≡ index names
+-- each of some places lies within the text
+abbrev pub Parts : List ℕ → List Place → Type 0
+Parts t ps = (i : ℕ) → i < length ps → InText t (get_or ps i no_place)
+
+-- ---- entries
+
+-- the names of some entries
+abbrev pub names_of : List ℕ → List Entry → List (List ℕ)
+names_of t es = map (λ (e : Entry). name_at t e.place) es
+
+-- what stands past the end of some entries
+abbrev pub no_entry : Entry
+no_entry = record { place = no_place; tag = 0 }
+
+-- the place of each of some entries lies within the text
+abbrev pub EachInText : List ℕ → List Entry → Type 0
+EachInText t es = (i : ℕ) → i < length es → InText t (get_or es i no_entry).place
+
+-- ---- the slots of a sort
+
+-- there are 256 slots, and no member is beyond the group
+pub record Slots (slots : List ℕ) (count : ℕ) : Type 0 where
+  pub size : length slots ≡ 256
+  pub known : (i : ℕ) → i < 256 → get_or slots i 0 ≤ count
+
+-- the slots are the index of some names, which are distinct and at most 64
+pub record Indexed (slots : List ℕ) (names : List (List ℕ)) : Type 0 where
+  pub made : slots ≡ index names
   pub distinct : Distinct names
   pub few : length names ≤ 64
 
--- the slots from `at` on with the name of member m, the others as they were
-unfoldable pub put_at : ℕ → List ℕ → List ℕ → ℕ → List ℕ
-put_at at slots n m = set slots (at + free_slot_lem (slots_at_lem at slots) n) (suc m)
-
 -- ---- what the code's values say
-abbrev pub found_of : Found → Option ℕ
-found_of (At i) = some i
-found_of Nothing = none
+
+-- Rust's option as the definitions' own
+abbrev pub found_of : rust.Option ℕ → Option ℕ
+found_of (rust.Some i) = some i
+found_of rust.None = none
 
 abbrev pub looked_of : Lookup → Searched
 looked_of l = record { member = found_of l.found; read = l.read }

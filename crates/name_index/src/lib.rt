@@ -2,11 +2,10 @@
 #![tactic(auto)]
 
 ghost use Rattle.std.specs.Prelude.{◌≡◌, ◌+◌, ◌≤◌, ◌<◌, length};
-ghost use Rattle.std.proofs.Math.Seq.{slice};
 ghost use Rattle.grammar.specs.Lookup.{same};
-ghost use Rattle.name_index.specs.Hash.{fnv_step_lem, slot_of};
-ghost use Rattle.name_index.specs.Index.{free_slot_lem, search};
-ghost use Rattle.name_index.specs.Parts.{name_at, names_at, Parts, slots_at_lem, Slots, put_at, looked_of};
+ghost use Rattle.name_index.specs.Hash.{fnv_step, slot_of};
+ghost use Rattle.name_index.specs.Index.{free_slot, put, search};
+ghost use Rattle.name_index.specs.Parts.{name_at, names_of, looked_of, InText, EachInText, Slots};
 
 // How many slots a sort has.
 const SLOTS: usize = 256;
@@ -20,160 +19,109 @@ const LOW_32_BITS: u64 = 4294967296;
 
 const LOW_8_BITS: u32 = 256;
 
-// The number of a name within its group.
+// Where a name stands in its text.
 #[derive(Clone, Copy)]
-pub enum Found {
-    At(u8),
-    Nothing,
+pub struct Place {
+    pub from: u16,
+    pub to: u16,
 }
 
-// What a search found, and how many slots it read, the one that ended it included.
+// Where a name stands in its text, and what else is held of it.
+#[derive(Clone, Copy)]
+pub struct Entry {
+    pub place: Place,
+    pub tag: u8,
+}
+
+// The number of a name within its group, and how many slots the search read, the one that ended it included.
 #[derive(Clone, Copy)]
 pub struct Lookup {
-    pub found: Found,
+    pub found: Option<u8>,
     pub read: usize,
 }
 
-// ---- names as parts of a text
-
-fn wide(x: u16) -> usize
-    ensures { result ≡ x }
+// Whether the name stands at this place of the text.
+pub fn is_name(text: &[u8], place: Place, name: &[u8]) -> bool
+    requires { InText text.now place }
+    ensures { result ≡ same name.now (name_at text.now place) }
 {
-    x as usize
-}
-
-// Whether the part of t from `from` up to `to` is the part of f from `start` up to `end`.
-pub fn is_same<'a>(
-    t: &'a [u8],
-    from: usize,
-    to: usize,
-    f: &'a [u8],
-    start: usize,
-    end: usize,
-) -> bool
-    requires { (from ≤ to) × (to ≤ length t.now) × (start ≤ end) × (end ≤ length f.now) }
-    ensures { result ≡ same (slice from to t.now) (slice start end f.now) }
-{
-    if to - from != end - start {
-        return false;
-    }
-    let mut i = from;
-    let mut j = start;
-    while i < to {
-        if t[i] != f[j] {
-            return false;
-        }
-        i += 1;
-        j += 1;
-    }
-    true
-}
-
-// Whether name e is the one that stands in t from `from` up to `to`.
-pub fn is_name<'a>(
-    f: &'a [u8],
-    starts: &'a [u16],
-    ends: &'a [u16],
-    e: usize,
-    t: &'a [u8],
-    from: usize,
-    to: usize,
-) -> bool
-    requires { Parts f.now starts.now ends.now e 1 × (from ≤ to) × (to ≤ length t.now) }
-    ensures { result ≡ same (slice from to t.now) (name_at f.now starts.now ends.now e) }
-{
-    is_same(t, from, to, f, wide(starts[e]), wide(ends[e]))
+    let from = usize::from(place.from);
+    let to = usize::from(place.to);
+    name == &text[from..to]
 }
 
 // ---- FNV-1a
 
 // One byte more: the product is taken modulo 2 to the 32.
 fn fnv_step(h: u32, b: u8) -> u32
-    ensures { result ≡ fnv_step_lem h b }
+    ensures { result ≡ fnv_step h b }
 {
-    (((b as u32) ^ h) as u64 * FNV_PRIME % LOW_32_BITS) as u32
+    ((u32::from(b) ^ h) as u64 * FNV_PRIME % LOW_32_BITS) as u32
 }
 
-// The slot of the name that stands in t from `from` up to `to`.
-fn slot_of(t: &[u8], from: usize, to: usize) -> usize
-    requires { (from ≤ to) × (to ≤ length t.now) }
-    ensures { (result ≡ slot_of (slice from to t.now)) × (result < 256) }
+// The slot of a name.
+fn slot_of(name: &[u8]) -> usize
+    ensures value { result ≡ slot_of name.now }
+    ensures low { result < 256 }
 {
     let mut h = FNV_OFFSET;
-    let mut i = from;
-    while i < to {
-        h = fnv_step(h, t[i]);
-        i += 1;
+    for &b in name {
+        h = fnv_step(h, b);
     }
     (h % LOW_8_BITS) as usize
 }
 
-// ---- the slots of a sort begin at `at`, its names at `base`
+// ---- the slots of a sort, and its names
 
-// The member that has the name that stands in t from `from` up to `to`, and how many slots were read for it.
-pub fn find<'a>(
-    f: &'a [u8],
-    starts: &'a [u16],
-    ends: &'a [u16],
-    base: usize,
-    count: u8,
-    slots: &'a [u8],
-    at: usize,
-    t: &'a [u8],
-    from: usize,
-    to: usize,
-) -> Lookup
-    requires { Parts f.now starts.now ends.now base count × Slots slots.now at count × (from ≤ to) × (to ≤ length t.now) }
-    ensures { looked_of result ≡ search (slots_at_lem at slots.now) (names_at f.now starts.now ends.now base count) (slice from to t.now) }
+// The member of a group that has the name, and how many slots were read for it.
+pub fn find(text: &[u8], group: &[Entry], slots: &[u8], name: &[u8]) -> Lookup
+    requires group { EachInText text.now group.now }
+    requires slots { Slots slots.now (length group.now) }
+    ensures { looked_of result ≡ search slots.now (names_of text.now group.now) name.now }
 {
-    let mut i = slot_of(t, from, to);
-    let mut read = 0;
-    while read < SLOTS {
-        let s = slots[at + i];
-        if s == 0 {
-            return Lookup {
-                found: Found::Nothing,
-                read: read + 1,
-            };
+    let mut i = slot_of(name);
+    for read in 1..=SLOTS {
+        let slot = slots[i];
+        if slot == 0 {
+            return Lookup { found: None, read };
         }
-        let m = s - 1;
-        if is_name(f, starts, ends, base + (m as usize), t, from, to) {
+        let member = slot - 1;
+        if is_name(text, group[usize::from(member)].place, name) {
             return Lookup {
-                found: Found::At(m),
-                read: read + 1,
+                found: Some(member),
+                read,
             };
         }
         i = (i + 1) % SLOTS;
-        read += 1;
     }
     Lookup {
-        found: Found::Nothing,
+        found: None,
         read: SLOTS,
     }
 }
 
-// The first free slot for the name that stands in t from `from` up to `to`.
-fn free_slot<'a>(slots: &'a [u8], at: usize, t: &'a [u8], from: usize, to: usize) -> usize
-    requires { (at + 256 ≤ length slots.now) × (from ≤ to) × (to ≤ length t.now) }
-    ensures { (result ≡ free_slot_lem (slots_at_lem at slots.now) (slice from to t.now)) × (result < 256) }
+// The first free slot for a name.
+fn free_slot(slots: &[u8], name: &[u8]) -> usize
+    requires { length slots.now ≡ 256 }
+    ensures value { result ≡ free_slot slots.now name.now }
+    ensures low { result < 256 }
 {
-    let mut j = slot_of(t, from, to);
-    let mut taken = 0;
-    while taken < SLOTS {
-        if slots[at + j] == 0 {
-            return j;
+    let mut free = slot_of(name);
+    for _ in 0..SLOTS {
+        if slots[free] == 0 {
+            return free;
         }
-        j = (j + 1) % SLOTS;
-        taken += 1;
+        free = (free + 1) % SLOTS;
     }
-    j
+    free
 }
 
-// Puts in the name of member m, which stands in t from `from` up to `to`.
-pub fn insert(slots: &mut [u8], at: usize, t: &[u8], from: usize, to: usize, m: u8)
-    requires { (at + 256 ≤ length slots.old) × (from ≤ to) × (to ≤ length t.now) × (m < 255) }
-    ensures { slots.new ≡ put_at at slots.old (slice from to t.now) m }
+// Puts in the name of a member.
+pub fn insert(slots: &mut [u8], name: &[u8], member: u8)
+    requires size { length slots.old ≡ 256 }
+    requires few { member < 255 }
+    ensures { slots.new ≡ put slots.old name.now member }
 {
-    let i = free_slot(slots, at, t, from, to);
-    slots[at + i] = m + 1;
+    let i = free_slot(slots, name);
+    slots[i] = member + 1;
 }

@@ -1,26 +1,28 @@
-// Looking up a name in the entries that the code holds.
+// Looking up a name among those that are declared.
 #![tactic(auto)]
 
-ghost use Rattle.std.specs.Prelude.{◌≡◌, ◌≤◌, ◌<◌, length};
+pub mod table;
+
+ghost use Rattle.std.specs.Prelude.{◌≡◌, ◌+◌, ◌≤◌, ◌<◌, length};
 ghost use Rattle.std.proofs.Math.Seq.{slice};
-ghost use Rattle.algebra.specs.Stored.{stored_sort};
+ghost use Rattle.algebra.specs.Meant.{sort_meant};
 ghost use Rattle.grammar.specs.Lookup.{position};
-ghost use Rattle.name_index.specs.Parts.{put_at, found_of, LooksUp};
-ghost use Rattle.names.specs.Entries.{sort_number, entry_at, entries, is_tagged_lem, is_entry_lem, Group, Sound, member_names, slot_base, span_of, lookup_in, kind_of};
-ghost use Rattle.names.specs.Entries.{counts_of_lem};
+ghost use Rattle.name_index.specs.Parts.{found_of, InText, EachInText, LooksUp};
+ghost use Rattle.names.specs.Entries.{tagged, tagged_in, is_tagged, is_entry, sort_number, slot_base, put_member};
+ghost use Rattle.names.specs.Entries.{group_base, group_count, group_of, tag_wanted, kind_of, counts_of};
+ghost use Rattle.names.specs.Looks.{lookup_of, members_of};
 
-use algebra::Counts;
-use name_index::{Found, Lookup, insert, is_name};
+use algebra::{Counts, Sort};
+use name_index::{Entry, Lookup, insert, is_name};
+pub use table::Names;
 
-// ---- looking up a name
-
-// What a name is asked for as, in the sort 0, 1 or 2.
+// What a name is asked for as.
 #[derive(Clone, Copy)]
 pub enum NameKind {
     Table,
     RuleSet,
-    Member(u8),
-    Predicate(u8),
+    Member(Sort),
+    Predicate(Sort),
 }
 
 // How many names each group has.
@@ -34,217 +36,161 @@ pub struct NameCounts {
     pub sets: u8,
 }
 
-// Whether an entry's tag is the one wanted; 3 asks for any.
-fn is_tagged(wanted: u8, tag: u8) -> bool
-    ensures { result ≡ is_tagged_lem wanted tag }
+// The first entry of each group.
+pub const SUBJECTS: usize = 0;
+
+pub const OBJECTS: usize = 64;
+
+pub const ACTIONS: usize = 128;
+
+pub const PREDICATES: usize = 144;
+
+pub const TABLES: usize = 160;
+
+pub const RULE_SETS: usize = 176;
+
+// How many slots of the index each sort has, and the first of each.
+const SLOTS: usize = 256;
+
+const SUBJECT_SLOTS: usize = 0;
+
+const OBJECT_SLOTS: usize = 256;
+
+const ACTION_SLOTS: usize = 512;
+
+// ---- entries
+
+// Whether an entry's tag is the one wanted, if one is.
+fn is_tagged(wanted: Option<u8>, tag: u8) -> bool
+    ensures { result ≡ is_tagged (found_of wanted) tag }
 {
-    if 3 <= wanted {
-        return true;
+    match wanted {
+        Some(wanted) => tag == wanted,
+        None => true,
     }
-    tag == wanted
 }
 
-// Whether entry k has the tag wanted, and the name that stands in t from `from` up to `to`.
-fn is_entry<'a>(
-    f: &'a [u8],
-    starts: &'a [u16],
-    ends: &'a [u16],
-    tags: &'a [u8],
-    k: usize,
-    wanted: u8,
-    t: &'a [u8],
-    from: usize,
-    to: usize,
-) -> bool
-    requires { Group f.now starts.now ends.now tags.now k 1 × (from ≤ to) × (to ≤ length t.now) }
-    ensures { result ≡ is_entry_lem wanted (slice from to t.now) (entry_at f.now starts.now ends.now tags.now k) }
+// Whether an entry has the tag wanted and the name.
+fn is_entry(file: &[u8], entry: Entry, wanted: Option<u8>, name: &[u8]) -> bool
+    requires { InText file.now entry.place }
+    ensures { result ≡ is_entry (found_of wanted) name.now (tagged file.now entry) }
 {
-    if !is_tagged(wanted, tags[k]) {
+    if !is_tagged(wanted, entry.tag) {
         return false;
     }
-    is_name(f, starts, ends, k, t, from, to)
+    is_name(file, entry.place, name)
 }
 
-// The first entry of a group that has the tag wanted and the name that stands in t from `from` up to `to`.
-pub fn find<'a>(
-    f: &'a [u8],
-    starts: &'a [u16],
-    ends: &'a [u16],
-    tags: &'a [u8],
-    base: usize,
-    count: u8,
-    wanted: u8,
-    t: &'a [u8],
-    from: usize,
-    to: usize,
-) -> Found
-    requires { Group f.now starts.now ends.now tags.now base count × (from ≤ to) × (to ≤ length t.now) }
-    ensures { found_of result ≡ position (is_entry_lem wanted (slice from to t.now)) (entries f.now starts.now ends.now tags.now base count) }
+// The first entry of a group that has the tag wanted and the name.
+pub fn find(file: &[u8], group: &[Entry], wanted: Option<u8>, name: &[u8]) -> Option<u8>
+    requires few { length group.now < 256 }
+    requires in_file { EachInText file.now group.now }
+    ensures { found_of result ≡ position (is_entry (found_of wanted) name.now) (tagged_in file.now group.now) }
 {
-    let mut i: u8 = 0;
-    let mut k = base;
-    while i < count {
-        if is_entry(f, starts, ends, tags, k, wanted, t, from, to) {
-            return Found::At(i);
+    for (i, entry) in group.iter().enumerate() {
+        if is_entry(file, *entry, wanted, name) {
+            return Some(i as u8);
         }
-        i += 1;
-        k += 1;
     }
-    Found::Nothing
+    None
 }
 
-// The tag of a predicate's sort.
-fn sort_tag(s: u8) -> u8
-    ensures { result ≡ sort_number (stored_sort s) }
+// The tag of a predicate of a sort.
+pub fn sort_tag(sort: Sort) -> u8
+    ensures { result ≡ sort_number (sort_meant sort) }
 {
-    if s < 2 { s } else { 2 }
+    sort as u8
 }
 
-// A group of names: its first entry, how many it has, and the tag that is wanted; 3 for any.
-#[derive(Clone, Copy)]
-pub struct Span {
-    pub base: usize,
-    pub count: u8,
-    pub wanted: u8,
+// ---- the members' index
+
+// The first slot of a sort.
+fn slots_from(sort: Sort) -> usize
+    ensures { result ≡ slot_base (sort_meant sort) }
+{
+    match sort {
+        Sort::Subject => SUBJECT_SLOTS,
+        Sort::Object => OBJECT_SLOTS,
+        Sort::Action => ACTION_SLOTS,
+    }
 }
 
-// The group in which a name is looked for.
-fn group_of(counts: NameCounts, kind: NameKind) -> Span
-    ensures { result ≡ span_of counts (kind_of kind) }
+// Puts in the name of a sort's member.
+pub fn insert_member(slots: &mut [u8; 768], sort: Sort, name: &[u8], member: u8)
+    requires { (member < 255) × (length slots.old ≡ 768) }
+    ensures { slots.new ≡ put_member (sort_meant sort) slots.old name.now member }
+{
+    let from = slots_from(sort);
+    insert(&mut slots[from..from + SLOTS], name, member);
+}
+
+// ---- looking up a name
+
+// The first entry of a kind's group, and how many entries the group has.
+fn span(counts: NameCounts, kind: NameKind) -> (usize, u8)
+    ensures base { result.0 ≡ group_base (kind_of kind) }
+    ensures count { result.1 ≡ group_count counts (kind_of kind) }
 {
     match kind {
-        NameKind::Table => Span {
-            base: 160,
-            count: counts.tables,
-            wanted: 3,
-        },
-        NameKind::RuleSet => Span {
-            base: 176,
-            count: counts.sets,
-            wanted: 3,
-        },
-        NameKind::Predicate(s) => Span {
-            base: 144,
-            count: counts.predicates,
-            wanted: sort_tag(s),
-        },
-        NameKind::Member(s) => {
-            if s == 0 {
-                return Span {
-                    base: 0,
-                    count: counts.subjects,
-                    wanted: 3,
-                };
-            }
-            if s == 1 {
-                return Span {
-                    base: 64,
-                    count: counts.objects,
-                    wanted: 3,
-                };
-            }
-            Span {
-                base: 128,
-                count: counts.actions,
-                wanted: 3,
-            }
+        NameKind::Table => (TABLES, counts.tables),
+        NameKind::RuleSet => (RULE_SETS, counts.sets),
+        NameKind::Predicate(_) => (PREDICATES, counts.predicates),
+        NameKind::Member(Sort::Subject) => (SUBJECTS, counts.subjects),
+        NameKind::Member(Sort::Object) => (OBJECTS, counts.objects),
+        NameKind::Member(Sort::Action) => (ACTIONS, counts.actions),
+    }
+}
+
+// The tag that an entry of a kind has to have, if it has to have one: a predicate's is its sort.
+fn tag_wanted(kind: NameKind) -> Option<u8>
+    ensures { found_of result ≡ tag_wanted (kind_of kind) }
+{
+    match kind {
+        NameKind::Predicate(sort) => Some(sort_tag(sort)),
+        NameKind::Table | NameKind::RuleSet | NameKind::Member(_) => None,
+    }
+}
+
+impl<'a> Names<'a> {
+    // The entries of a kind's group.
+    fn group(&self, kind: NameKind) -> &'a [Entry]
+        ensures entries { result.now ≡ group_of self.now.entries.now self.now.counts (kind_of kind) }
+        ensures few { length result.now < 256 }
+    {
+        let (base, count) = span(self.counts, kind);
+        &self.entries[base..base + usize::from(count)]
+    }
+
+    // The member of a sort that has the name, and how many slots were read for it.
+    pub fn look_member(&self, sort: Sort, name: &[u8]) -> Lookup
+        ensures { LooksUp (members_of self.now (sort_meant sort)) name.now result }
+    {
+        let group = self.group(NameKind::Member(sort));
+        let from = slots_from(sort);
+        name_index::find(self.file, group, &self.slots[from..from + SLOTS], name)
+    }
+
+    // The number of a name, as what it is asked for.
+    pub fn look(&self, kind: NameKind, name: &[u8]) -> Option<u8>
+        ensures { found_of result ≡ lookup_of self.now (kind_of kind) name.now }
+    {
+        if let NameKind::Member(sort) = kind {
+            return self.look_member(sort, name).found;
         }
+        find(self.file, self.group(kind), tag_wanted(kind), name)
     }
-}
-
-// ---- the members' index, whose slots stand behind the 192 tags
-
-const SUBJECT_SLOTS: usize = 192;
-
-const OBJECT_SLOTS: usize = 448;
-
-const ACTION_SLOTS: usize = 704;
-
-// Where the slots of a sort begin.
-fn slots_of(s: u8) -> usize
-    ensures { result ≡ slot_base (stored_sort s) }
-{
-    if s == 0 {
-        return SUBJECT_SLOTS;
-    }
-    if s == 1 {
-        return OBJECT_SLOTS;
-    }
-    ACTION_SLOTS
-}
-
-// Puts in the name of member m of a sort, which stands in t from `from` up to `to`.
-pub fn insert_member(tags: &mut [u8; 960], s: u8, t: &[u8], from: usize, to: usize, m: u8)
-    requires { (from ≤ to) × (to ≤ length t.now) × (m < 255) × (length tags.old ≡ 960) }
-    ensures { tags.new ≡ put_at (slot_base (stored_sort s)) tags.old (slice from to t.now) m }
-{
-    insert(tags, slots_of(s), t, from, to, m);
-}
-
-// The member of a sort that has the name that stands in t from `from` up to `to`, and how many slots were read for it.
-pub fn look_member<'a>(
-    f: &'a [u8],
-    starts: &'a [u16],
-    ends: &'a [u16],
-    tags: &'a [u8],
-    counts: NameCounts,
-    s: u8,
-    t: &'a [u8],
-    from: usize,
-    to: usize,
-) -> Lookup
-    requires { Sound f.now starts.now ends.now tags.now counts × (from ≤ to) × (to ≤ length t.now) }
-    ensures { LooksUp (member_names f.now starts.now ends.now counts (stored_sort s)) (slice from to t.now) result }
-{
-    let g = group_of(counts, NameKind::Member(s));
-    name_index::find(
-        f,
-        starts,
-        ends,
-        g.base,
-        g.count,
-        tags,
-        slots_of(s),
-        t,
-        from,
-        to,
-    )
-}
-
-// The number of the name that stands in t from `from` up to `to`, as what it is asked for.
-pub fn look<'a>(
-    f: &'a [u8],
-    starts: &'a [u16],
-    ends: &'a [u16],
-    tags: &'a [u8],
-    counts: NameCounts,
-    kind: NameKind,
-    t: &'a [u8],
-    from: usize,
-    to: usize,
-) -> Found
-    requires { Sound f.now starts.now ends.now tags.now counts × (from ≤ to) × (to ≤ length t.now) }
-    ensures { found_of result ≡ lookup_in f.now starts.now ends.now tags.now counts (kind_of kind) (slice from to t.now) }
-{
-    if let NameKind::Member(s) = kind {
-        let l = look_member(f, starts, ends, tags, counts, s, t, from, to);
-        return l.found;
-    }
-    let g = group_of(counts, kind);
-    find(
-        f, starts, ends, tags, g.base, g.count, g.wanted, t, from, to,
-    )
 }
 
 // ---- counts
 
-// How many members each sort has.
-pub fn counts_of(n: NameCounts) -> Counts
-    ensures { result ≡ counts_of_lem n }
-{
-    Counts {
-        subjects: n.subjects,
-        objects: n.objects,
-        actions: n.actions,
+impl From<NameCounts> for Counts {
+    ghost from_gives = { λ n c. c ≡ counts_of n };
+
+    fn from(n: NameCounts) -> Self {
+        Counts {
+            subjects: n.subjects,
+            objects: n.objects,
+            actions: n.actions,
+        }
     }
 }

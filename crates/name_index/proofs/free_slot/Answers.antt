@@ -1,26 +1,24 @@
+use Rattle.std.proofs.Common.{arith, rules}
 use Rattle.name_index.proofs.Parts.{freeing_first, freeing_found, freeing_next, freeing_end}
-use borrow.Author.Rules.{rules}
-use native.Mathlib.Omega.{arith}
 use Rattle.name_index.proofs.free_slot.Goals as goal
 
-pub loop-taken-init : goal.loop-taken-init
-loop-taken-init c = freeing_first _ _ _ c.slot_of-j.ensures.0
+pub loop-init : goal.loop-init
+loop-init c = freeing_first _ _ c.slot_of-free.ensures.value
 
-pub overflow_add-at : goal.overflow_add-at
-overflow_add-at c = omega (arith, c.loop-taken.invariant.at_slot.here)
+pub bounds-slots-free : goal.bounds-slots-free
+bounds-slots-free c = omega (arith, c.loop.invariant.at_slot.here)
 
-pub bounds-slots-at : goal.bounds-slots-at
-bounds-slots-at c = omega (arith, c.loop-taken.invariant.at_slot.here)
+pub returns-then-slots-free-eq0-clause-value : goal.returns-then-slots-free-eq0-clause-value
+returns-then-slots-free-eq0-clause-value c = freeing_found _ _ c.loop.invariant (search rules) c.if-slots-free-eq0.true
 
-pub returns-then-slots-at-eq0 : goal.returns-then-slots-at-eq0
-returns-then-slots-at-eq0 c =
-    (freeing_found _ _ _ c.loop-taken.invariant (search rules) c.if-slots-at-eq0.true, omega (arith, c.loop-taken.invariant.at_slot.here))
+pub returns-then-slots-free-eq0-clause-low : goal.returns-then-slots-free-eq0-clause-low
+returns-then-slots-free-eq0-clause-low c = omega (arith, c.loop.invariant.at_slot.here)
 
-pub overflow_add-j : goal.overflow_add-j
-overflow_add-j c = omega (arith, c.loop-taken.invariant.at_slot.here)
+pub loop-preserved : goal.loop-preserved
+loop-preserved c = freeing_next _ _ c.loop.invariant (search rules) c.if-slots-free-eq0.false
 
-pub loop-taken-preserved : goal.loop-taken-preserved
-loop-taken-preserved c = freeing_next _ _ _ c.loop-taken.invariant (search rules) c.if-slots-at-eq0.false
+pub returns-clause-value : goal.returns-clause-value
+returns-clause-value c = freeing_end _ _ c.loop.invariant (search rules)
 
-pub returns : goal.returns
-returns c = (freeing_end _ _ _ c.loop-taken.invariant (search rules), omega (arith, c.loop-taken.invariant.at_slot.here))
+pub returns-clause-low : goal.returns-clause-low
+returns-clause-low c = omega (arith, c.loop.invariant.at_slot.here)

@@ -1,5 +1,7 @@
-use Rattle.name_index.proofs.Parts.{put_is}
+use Rattle.std.proofs.Common.{add-one}
+use Rattle.name_index.specs.Index.{put}
 use Rattle.name_index.proofs.insert.Goals as goal
 
 pub returns : goal.returns
-returns c = put_is _ _ _ _ c.free_slot-i.ensures.0
+unfolding put
+returns c = rw (c.free_slot-i.ensures.value, add-one)

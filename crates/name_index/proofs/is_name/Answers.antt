@@ -1,9 +1,9 @@
-use native.Mathlib.Omega.{arith}
+use Rattle.std.proofs.Common.{◌∙◌, ap, rules}
+use Rattle.grammar.specs.Lookup.{same}
+use Rattle.name_index.proofs.Same.{same_is, part_is}
 use Rattle.name_index.proofs.is_name.Goals as goal
 
-pub is_same-requires : goal.is_same-requires
-is_same-requires c =
-    omega (arith, c.requires.0.ordered c.args.e (omega arith) (omega arith), c.requires.0.in_file c.args.e (omega arith) (omega arith))
-
 pub returns : goal.returns
-returns c = cc
+returns c =
+    rw (← c.from-from.ensures, ← c.from-to.ensures)
+    (same_is _ _ c.eq.ensures ∙ ap (same c.args.name.now) (part_is _ _ c.args.text.now (search rules)))

@@ -1,10 +1,7 @@
-use native.Mathlib.Omega.{arith}
-use Rattle.algebra.specs.Stored.{stored_sort}
-use Rattle.names.proofs.Lookup.{slots_within, inserted}
+use Rattle.algebra.specs.Meant.{sort_meant}
+use Rattle.std.proofs.Common.{arith}
+use Rattle.names.proofs.Entries.{inserted, slots_within}
 use Rattle.names.proofs.insert_member.Goals as goal
 
-pub insert-requires : goal.insert-requires
-insert-requires c = omega (arith, slots_within (stored_sort c.args.s), c.slots_of.ensures)
-
 pub returns : goal.returns
-returns c = inserted _ _ _ _ _ _ c.insert.ensures c.slots_of.ensures
+returns c = inserted _ _ _ (sort_meant c.args.sort) c.slots_from-from.ensures (omega (arith, slots_within (sort_meant c.args.sort))) c.insert.ensures

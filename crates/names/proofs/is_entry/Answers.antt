@@ -1,4 +1,4 @@
-use mathlib.Core.Path.{sym, ◌∙◌}
+use Rattle.std.proofs.Common.{sym, ◌∙◌}
 use Rattle.names.proofs.Lookup.{entry_other, entry_named}
 use Rattle.names.proofs.is_entry.Goals as goal
 

@@ -1,11 +1,10 @@
-use borrow.Author.Tests.{le-leb, lt-leb}
-use Rattle.names.specs.Entries.{is_tagged_lem}
+use Rattle.names.specs.Entries.{is_tagged}
 use Rattle.names.proofs.is_tagged.Goals as goal
 
-pub returns-then-wanted-ge3 : goal.returns-then-wanted-ge3
-unfolding is_tagged_lem
-returns-then-wanted-ge3 c = rw (le-leb _ _ c.if-wanted-ge3.true)
+pub returns-in-Some : goal.returns-in-Some
+unfolding is_tagged
+returns-in-Some c = rw c.in-Some.is
 
-pub returns : goal.returns
-unfolding is_tagged_lem
-returns c = rw (lt-leb _ _ c.if-wanted-ge3.false)
+pub returns-in-None : goal.returns-in-None
+unfolding is_tagged
+returns-in-None c = rw c.in-None.is

@@ -1,8 +1,17 @@
-use Rattle.names.proofs.Lookup.{tag_low, tag_high}
+use Rattle.std.proofs.Common.{refl, ◌≡◌}
+use denote.Enum.Declared.{tag_of}
+use Rattle.algebra.specs.contracts.Sort as contract
+use Rattle.algebra.specs.declared.Sort.{Sort}
+use Rattle.algebra.specs.declared.Sort.TheVariants.{Subject, Object, Action}
+use Rattle.algebra.specs.Meant.{sort_meant}
+use Rattle.names.specs.Entries.{sort_number}
 use Rattle.names.proofs.sort_tag.Goals as goal
 
-pub returns-then-s-lt2 : goal.returns-then-s-lt2
-returns-then-s-lt2 c = tag_low _ c.if-s-lt2.true
+tag : (s : Sort) → tag_of contract.the_type s ≡ sort_number (sort_meant s)
+unfolding sort_number
+tag Subject = refl
+tag Object = refl
+tag Action = refl
 
-pub returns-else-s-lt2 : goal.returns-else-s-lt2
-returns-else-s-lt2 c = tag_high _ c.if-s-lt2.false
+pub returns : goal.returns
+returns c = tag c.args.sort
