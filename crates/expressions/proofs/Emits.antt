@@ -1,21 +1,22 @@
 -- The cells that an expression's text yields are the nodes of its tree, its operators are counted, and the place is that of its first name
 -- that is not declared. Assumes nothing.
-use mathlib.Core.Path.{◌≡◌, refl, sym, ap, subst, ◌∙◌}
-use mathlib.Core.Bool.{Bool, true, false, not, ◌||◌}
-use mathlib.Core.List.{List, [], ◌∷◌, ◌++◌}
-use mathlib.Core.Option.{Option, none, some, or_else}
-use Prim.Native.Nat.{ℕ, suc, ◌+◌, ◌≤◌, ◌<◌, min}
-use native.Mathlib.Omega.{arith}
-use lib.Dec.{ltb}
-use lib.ListN.{length, length-append}
+use Rattle.std.proofs.Common.{◌≡◌, refl, sym, ap, subst, ◌∙◌, Bool, true, false, not, ◌||◌, List, [], ◌∷◌, ◌++◌, ℕ, suc, ◌+◌, ◌≤◌, ◌<◌, min, ltb, arith}
+use Rattle.std.proofs.Common.{length, get_or, length-append}
+use Rattle.std.specs.Prelude as rust
+use Rattle.std.proofs.Math.ListN.{length-set}
+use Rattle.std.proofs.Math.Option.{Option, none, some, or_else}
+use Rattle.std.proofs.Math.Seq.{get_or-set_same, get_or-set_other}
 use borrow.Author.Tests.{ltb-true, ltb-false, lt-ltb}
+use Rattle.algebra.specs.Sort.{Sort, subject, object, action}
+use Rattle.algebra.specs.Order.{Op, le, ge, lt, gt, eq}
 use Rattle.algebra.specs.Answer.{Joiner, plus-sign, and-sign, minus-sign}
 use Rattle.algebra.specs.Algebra.{Tree, table, join, override, scope, template, operators}
 use Rattle.algebra.specs.Lists.{only}
-use Rattle.algebra.specs.Policy.{Scope}
-use Rattle.algebra.specs.Order.{Op, le, ge, lt, gt, eq}
-use Rattle.algebra.specs.Stored.{stored_op, stored_joiner}
-use Rattle.algebra.specs.Nodes.{Node, join_node, size, Encodes}
+use Rattle.algebra.specs.Meant.{op_meant}
+use Rattle.algebra.specs.Policy as policy
+use Rattle.algebra.specs.Nodes as meanings
+use Rattle.algebra.specs.Nodes.{join_node, scope_node, size, Encodes}
+use Rattle.algebra.specs.declared.Sort.TheVariants.{Subject, Object, Action}
 use Rattle.algebra.proofs.Nodes.{size_le, some_size, encodes_same, more_table, more_join, more_template, more_override, more_scope, more_closure}
 use Rattle.grammar.specs.Expression as Grammar
 use Rattle.grammar.specs.Expression.{Exp, one, more, Fac, plain, scoped, closed_by, Pri, table_name, bracket, byte_j}
@@ -23,259 +24,284 @@ use Rattle.grammar.specs.Expression.{text_s, text_e, text_f, text_p}
 use Rattle.grammar.specs.Names as Names
 use Rattle.grammar.specs.Names.{Kind, rule-set, Named, is_free, free_of, names_s, names_e, names_f, names_p, names, first_missing, missing}
 use Rattle.grammar.specs.Lookup.{same, found, place}
-use Rattle.names.specs.Entries.{sort_number}
 use Rattle.grammar.specs.Tree.{scope_of, table_of, tree_e, tree_f, tree_p, tree_of}
-use Rattle.nodes.specs.Cells.{cell, cell_in, scope_in, node_of, label}
-use Rattle.nodes.proofs.Puts.{put_length, put_elsewhere, put_here}
-use Rattle.words.specs.Cells.{op_number, sign_number, most_cells, most_count, counted_to, operators_after_lem, stored, place_of, first_place_lem}
-use Rattle.words.specs.Cells.{lacking, noted, emit_name, bound_as, emit_table, emit_s, emit_e, emit_f, emit_p, Yields}
-use Rattle.names.proofs.Lookup.{stored_sort_lem}
-use Rattle.words.proofs.Within.{filled_e}
 use Rattle.grammar.proofs.Names.{entry}
-use Rattle.nodes.specs.declared.Cell.{Cell}
-use Rattle.words.specs.declared.Place.{Place}
-use Rattle.words.specs.declared.Place.TheVariants.{At, Nowhere}
+use Rattle.name_index.specs.Parts.{found_of}
+use Rattle.nodes.specs.Cells.{node_meant, label}
+use Rattle.nodes.specs.declared.Node.{Node}
+use Rattle.nodes.specs.declared.Node.TheVariants.{Table, Join, Override, Template}
+use Rattle.words.specs.Cells.{sort_named, op_named, joiner_named, most_nodes, most_count, counted_to, operators_after, stored, first_place, noted}
+use Rattle.words.specs.Cells.{asked_as, node_with, emit_name, bound_as, emit_table, emit_s, emit_e, emit_f, emit_p, Yields}
 use Rattle.words.specs.declared.Nodes.{Nodes}
+use Rattle.words.specs.declared.Suffix.{Suffix}
+use Rattle.words.specs.declared.Suffix.TheVariants.{Comparing, Marking, Closing}
+use Rattle.words.proofs.Within.{filled_e}
 
 -- ---- one node more
 
-module _ (p : Nodes) (c : Cell) where
-  stored_long : length (stored p c).cells ≡ length p.cells
+module _ (p : Nodes) (n : Node) where
+  stored_long : length (stored p n).nodes ≡ length p.nodes
   unfolding stored
-  stored_long = go (ltb p.used most_cells) refl
+  stored_long = go (ltb p.used most_nodes) refl
     where
-      go : (b : Bool) → ltb p.used most_cells ≡ b → length (stored p c).cells ≡ length p.cells
-      go true e = rw e (put_length p.cells p.used c)
+      go : (b : Bool) → ltb p.used most_nodes ≡ b → length (stored p n).nodes ≡ length p.nodes
+      go true e = rw e (length-set p.nodes p.used n)
       go false e = rw e
 
-  stored_used : p.used ≤ most_cells → (stored p c).used ≡ min most_cells (p.used + 1)
+  stored_used : p.used ≤ most_nodes → (stored p n).used ≡ min most_nodes (p.used + 1)
   unfolding stored counted_to
-  stored_used h = go (ltb p.used most_cells) refl
+  stored_used h = go (ltb p.used most_nodes) refl
     where
-      go : (b : Bool) → ltb p.used most_cells ≡ b → (stored p c).used ≡ min most_cells (p.used + 1)
-      go true e = rw e (omega (arith, ltb-true p.used most_cells e))
-      go false e = rw e (omega (arith, ltb-false p.used most_cells e))
+      go : (b : Bool) → ltb p.used most_nodes ≡ b → (stored p n).used ≡ min most_nodes (p.used + 1)
+      go true e = rw e (omega (arith, ltb-true p.used most_nodes e))
+      go false e = rw e (omega (arith, ltb-false p.used most_nodes e))
 
   -- the nodes before stay
-  stored_below : (j : ℕ) → j < p.used → cell_in (stored p c).cells j ≡ cell_in p.cells j
+  stored_below : (j : ℕ) → j < p.used → get_or (stored p n).nodes j Template ≡ get_or p.nodes j Template
   unfolding stored
-  stored_below j l = go (ltb p.used most_cells) refl
+  stored_below j l = go (ltb p.used most_nodes) refl
     where
-      go : (b : Bool) → ltb p.used most_cells ≡ b → cell_in (stored p c).cells j ≡ cell_in p.cells j
-      go true e = rw e (put_elsewhere p.cells p.used c j (λ q. omega arith))
+      go : (b : Bool) → ltb p.used most_nodes ≡ b → get_or (stored p n).nodes j Template ≡ get_or p.nodes j Template
+      go true e = rw e (get_or-set_other p.nodes p.used j n Template (λ q. omega arith))
       go false e = rw e
 
-  stored_own : length p.cells ≡ 772 → p.used < most_cells → cell_in (stored p c).cells p.used ≡ c
+  stored_own : length p.nodes ≡ 193 → p.used < most_nodes → get_or (stored p n).nodes p.used Template ≡ n
   unfolding stored
-  stored_own h l = rw (lt-ltb p.used most_cells l) (put_here p.cells p.used c (omega arith))
+  stored_own h l = rw (lt-ltb p.used most_nodes l) (get_or-set_same p.nodes p.used n Template (omega arith))
 
 -- ---- a tree's nodes, one after another
 
 -- p' is p with the nodes of t after it, if there is room for them; where the count does not reach its bound, it is the tree's
-pub record Counts (p p' : Nodes) (t : Tree Scope) : Type 0 where
-  pub long : length p'.cells ≡ length p.cells
-  pub used_is : p.used ≤ most_cells → p'.used ≡ min most_cells (p.used + size t)
-  pub before : p.used ≤ most_cells → (j : ℕ) → j < p.used → cell_in p'.cells j ≡ cell_in p.cells j
-  pub nodes : length p.cells ≡ 772 → p.used + size t ≤ most_cells → Encodes (label p'.cells) t p.used p'.used
+pub record Counts (p p' : Nodes) (t : Tree policy.Scope) : Type 0 where
+  pub long : length p'.nodes ≡ length p.nodes
+  pub used_is : p.used ≤ most_nodes → p'.used ≡ min most_nodes (p.used + size t)
+  pub before : p.used ≤ most_nodes → (j : ℕ) → j < p.used → get_or p'.nodes j Template ≡ get_or p.nodes j Template
+  pub nodes : length p.nodes ≡ 193 → p.used + size t ≤ most_nodes → Encodes (label p'.nodes) t p.used p'.used
   pub operators_add : p.operators + operators t ≤ most_count → p'.operators ≡ p.operators + operators t
 
-one_more : (n : ℕ) → n < most_count → counted_to most_count n ≡ suc n
-unfolding counted_to
-one_more n h = rw (lt-ltb n most_count h) (omega arith)
-
-module _ (j : Joiner) where
-  sign_cell : node_of (cell (sign_number j) 0 0 0) ≡ join_node j
-  unfolding node_of stored_joiner sign_number
-  sign_cell = elim j as (λ k. node_of (cell (sign_number k) 0 0 0) ≡ join_node k) [ plus-sign ↦ refl | and-sign ↦ refl | minus-sign ↦ refl ]
-
-  sign_operators : (n : ℕ) → operators_after_lem n (sign_number j) ≡ counted_to most_count n
-  unfolding operators_after_lem sign_number
-  sign_operators n = elim j as (λ k. operators_after_lem n (sign_number k) ≡ counted_to most_count n) [ plus-sign ↦ refl | and-sign ↦ refl | minus-sign ↦ refl ]
+-- a node that is an operator
+abbrev IsOperator : Node → Type 0
+IsOperator n = (i : ℕ) → operators_after i n ≡ min (i + 1) most_count
 
 -- a node where it is put
-own_node : (p : Nodes) (c : Cell) {s : Node Scope} → node_of c ≡ s → length p.cells ≡ 772 → p.used < most_cells → label (stored p c).cells p.used ≡ s
-own_node p c e h l = ap node_of (stored_own p c h l) ∙ e
+own_node : (p : Nodes) (n : Node) {s : meanings.Node policy.Scope} → node_meant n ≡ s → length p.nodes ≡ 193 → p.used < most_nodes
+    → label (stored p n).nodes p.used ≡ s
+own_node p n e h l = ap node_meant (stored_own p n h l) ∙ e
+
+-- the code's sorts, comparisons and signs are those of the definitions
+meant_op : (o : Op) → op_meant (op_named o) ≡ o
+meant_op le = refl
+meant_op ge = refl
+meant_op lt = refl
+meant_op gt = refl
+meant_op eq = refl
+
+meant_join : (j : Joiner) → node_meant (Join (joiner_named j)) ≡ join_node j
+meant_join plus-sign = refl
+meant_join and-sign = refl
+meant_join minus-sign = refl
 
 -- where a tree ends, said in another way
-ends_at : {at : ℕ → Node Scope} {t : Tree Scope} {lo hi hi' : ℕ} → hi ≡ hi' → Encodes at t lo hi → Encodes at t lo hi'
+ends_at : {at : ℕ → meanings.Node policy.Scope} {t : Tree policy.Scope} {lo hi hi' : ℕ} → hi ≡ hi' → Encodes at t lo hi → Encodes at t lo hi'
 ends_at {at} {t} {lo} e x = subst (Encodes at t lo) e x
 
 module _ (p : Nodes) where
-  table_operators : (m : ℕ) → (stored p (cell 0 0 0 m)).operators ≡ p.operators + operators {C = Scope} (table m)
-  unfolding stored operators_after_lem operators
+  table_operators : (m : ℕ) → (stored p (Table m)).operators ≡ p.operators + operators {C = policy.Scope} (table m)
+  unfolding stored operators_after operators
   table_operators m = omega arith
 
-  counts_table : (m : ℕ) → Counts p (stored p (cell 0 0 0 m)) (table m)
-  unfolding size operators operators_after_lem node_of
+  counts_table : (m : ℕ) → Counts p (stored p (Table m)) (table m)
+  unfolding size operators
   counts_table m =
-      let c = cell 0 0 0 m in
+      let n : Node = Table m in
       record {
-        long = stored_long p c;
-        used_is = stored_used p c;
-        before = λ h. stored_below p c;
-        nodes = λ h l. ends_at (omega (arith, stored_used p c (omega arith)))
-            (more_table (label p.cells) (label (stored p c).cells) p.used (λ k i. ap node_of (stored_below p c k i)) m
-            (own_node p c refl h (omega arith)));
+        long = stored_long p n;
+        used_is = stored_used p n;
+        before = λ h. stored_below p n;
+        nodes = λ h l. ends_at (omega (arith, stored_used p n (omega arith)))
+            (more_table (label p.nodes) (label (stored p n).nodes) p.used (λ k i. ap node_meant (stored_below p n k i)) m
+            (own_node p n refl h (omega arith)));
         operators_add = λ l. table_operators m;
       }
 
-  binary_operators : (c : Cell) (p₁ p₂ : Nodes) (l r t' : Tree Scope) → operators t' ≡ suc (operators l + operators r)
-      → ((n : ℕ) → operators_after_lem n c.kind ≡ counted_to most_count n)
+  binary_operators : (n : Node) (p₁ p₂ : Nodes) (l r t' : Tree policy.Scope) → operators t' ≡ suc (operators l + operators r)
+      → IsOperator n
       → (p.operators + operators l ≤ most_count → p₁.operators ≡ p.operators + operators l)
       → (p₁.operators + operators r ≤ most_count → p₂.operators ≡ p₁.operators + operators r) → p.operators + operators t' ≤ most_count
-      → (stored p₂ c).operators ≡ p.operators + operators t'
+      → (stored p₂ n).operators ≡ p.operators + operators t'
   unfolding stored
-  binary_operators c p₁ p₂ l r t' o ops f g z =
+  binary_operators n p₁ p₂ l r t' o ops f g z =
       let a = f (omega arith) in
       let b = g (omega arith) in
-      ops p₂.operators ∙ one_more p₂.operators (omega arith) ∙ omega arith
+      ops p₂.operators ∙ omega arith
 
   -- a node with two parts
-  counts_binary : (c : Cell) (p₁ p₂ : Nodes) (l r t' : Tree Scope) → size t' ≡ suc (size l + size r) → operators t' ≡ suc (operators l + operators r)
-      → ((at at' : ℕ → Node Scope) (lo mid hi : ℕ) → ((j : ℕ) → j < hi → at' j ≡ at j) → at' hi ≡ node_of c → Encodes at l lo mid → Encodes at r mid hi
-      → Encodes at' t' lo (hi + 1)) → ((n : ℕ) → operators_after_lem n c.kind ≡ counted_to most_count n) → Counts p p₁ l → Counts p₁ p₂ r
-      → Counts p (stored p₂ c) t'
-  counts_binary c p₁ p₂ l r t' s o larger ops x y =
+  counts_binary : (n : Node) (p₁ p₂ : Nodes) (l r t' : Tree policy.Scope) → size t' ≡ suc (size l + size r) → operators t' ≡ suc (operators l + operators r)
+      → ((at at' : ℕ → meanings.Node policy.Scope) (lo mid hi : ℕ) → ((j : ℕ) → j < hi → at' j ≡ at j) → at' hi ≡ node_meant n
+      → Encodes at l lo mid → Encodes at r mid hi
+      → Encodes at' t' lo (hi + 1)) → IsOperator n → Counts p p₁ l → Counts p₁ p₂ r
+      → Counts p (stored p₂ n) t'
+  counts_binary n p₁ p₂ l r t' s o larger ops x y =
       record {
-        long = stored_long p₂ c ∙ y.long ∙ x.long;
-        used_is = λ h. let a = x.used_is h in let b = y.used_is (omega arith) in omega (arith, stored_used p₂ c (omega arith));
+        long = stored_long p₂ n ∙ y.long ∙ x.long;
+        used_is = λ h. let a = x.used_is h in let b = y.used_is (omega arith) in omega (arith, stored_used p₂ n (omega arith));
         before = λ h k i.
             let a = x.used_is h in
             let b = y.used_is (omega arith) in
-            stored_below p₂ c k (omega arith) ∙ y.before (omega arith) k (omega arith) ∙ x.before h k i;
+            stored_below p₂ n k (omega arith) ∙ y.before (omega arith) k (omega arith) ∙ x.before h k i;
         nodes = λ h room.
             let a = x.used_is (omega arith) in
             let b = y.used_is (omega arith) in
-            ends_at (omega (arith, stored_used p₂ c (omega arith)))
-            (larger (label p₂.cells) (label (stored p₂ c).cells) p.used p₁.used p₂.used (λ k i. ap node_of (stored_below p₂ c k i))
-            (own_node p₂ c refl (y.long ∙ x.long ∙ h) (omega arith))
-            (encodes_same (λ k i q. ap node_of (y.before (omega arith) k q)) (x.nodes h (omega arith))) (y.nodes (x.long ∙ h) (omega arith)));
-        operators_add = λ z. binary_operators c p₁ p₂ l r t' o ops x.operators_add y.operators_add z;
+            ends_at (omega (arith, stored_used p₂ n (omega arith)))
+            (larger (label p₂.nodes) (label (stored p₂ n).nodes) p.used p₁.used p₂.used (λ k i. ap node_meant (stored_below p₂ n k i))
+            (own_node p₂ n refl (y.long ∙ x.long ∙ h) (omega arith))
+            (encodes_same (λ k i q. ap node_meant (y.before (omega arith) k q)) (x.nodes h (omega arith))) (y.nodes (x.long ∙ h) (omega arith)));
+        operators_add = λ z. binary_operators n p₁ p₂ l r t' o ops x.operators_add y.operators_add z;
       }
 
-  counts_join : (j : Joiner) (p₁ p₂ : Nodes) (l r : Tree Scope) → Counts p p₁ l → Counts p₁ p₂ r
-      → Counts p (stored p₂ (cell (sign_number j) 0 0 0)) (join j l r)
-  unfolding size operators
+  counts_join : (j : Joiner) (p₁ p₂ : Nodes) (l r : Tree policy.Scope) → Counts p p₁ l → Counts p₁ p₂ r
+      → Counts p (stored p₂ (Join (joiner_named j))) (join j l r)
+  unfolding size operators operators_after
   counts_join j p₁ p₂ l r x y =
-      counts_binary (cell (sign_number j) 0 0 0) p₁ p₂ l r (join j l r) refl refl (λ at at' lo mid hi h q. more_join at at' hi h j (q ∙ sign_cell j))
-      (sign_operators j) x y
+      counts_binary (Join (joiner_named j)) p₁ p₂ l r (join j l r) refl refl (λ at at' lo mid hi h q. more_join at at' hi h j (q ∙ meant_join j))
+      (λ i. refl) x y
 
-  counts_template : (p₁ p₂ : Nodes) (e f : Tree Scope) → Counts p p₁ e → Counts p₁ p₂ f → Counts p (stored p₂ (cell 8 0 0 0)) (template e f)
-  unfolding size operators operators_after_lem node_of
+  counts_template : (p₁ p₂ : Nodes) (e f : Tree policy.Scope) → Counts p p₁ e → Counts p₁ p₂ f → Counts p (stored p₂ Template) (template e f)
+  unfolding size operators operators_after
   counts_template p₁ p₂ e f x y =
-      counts_binary (cell 8 0 0 0) p₁ p₂ e f (template e f) refl refl (λ at at' lo mid hi h q. more_template at at' hi h q) (λ n. refl) x y
+      counts_binary Template p₁ p₂ e f (template e f) refl refl (λ at at' lo mid hi h q. more_template at at' hi h q) (λ i. refl) x y
 
-  override_operators : (p₁ p₂ p₃ : Nodes) (l m r : Tree Scope)
+  override_operators : (p₁ p₂ p₃ : Nodes) (l m r : Tree policy.Scope)
       → (p.operators + operators l ≤ most_count → p₁.operators ≡ p.operators + operators l)
       → (p₁.operators + operators m ≤ most_count → p₂.operators ≡ p₁.operators + operators m)
       → (p₂.operators + operators r ≤ most_count → p₃.operators ≡ p₂.operators + operators r)
-      → p.operators + operators (override l m r) ≤ most_count → (stored p₃ (cell 4 0 0 0)).operators ≡ p.operators + operators (override l m r)
-  unfolding stored operators operators_after_lem
+      → p.operators + operators (override l m r) ≤ most_count → (stored p₃ Override).operators ≡ p.operators + operators (override l m r)
+  unfolding stored operators operators_after
   override_operators p₁ p₂ p₃ l m r f g k z =
       let a = f (omega arith) in
       let b = g (omega arith) in
       let d = k (omega arith) in
-      one_more p₃.operators (omega arith) ∙ omega arith
+      omega arith
 
-  counts_override : (p₁ p₂ p₃ : Nodes) (l m r : Tree Scope) → Counts p p₁ l → Counts p₁ p₂ m → Counts p₂ p₃ r
-      → Counts p (stored p₃ (cell 4 0 0 0)) (override l m r)
-  unfolding size node_of
+  counts_override : (p₁ p₂ p₃ : Nodes) (l m r : Tree policy.Scope) → Counts p p₁ l → Counts p₁ p₂ m → Counts p₂ p₃ r
+      → Counts p (stored p₃ Override) (override l m r)
+  unfolding size
   counts_override p₁ p₂ p₃ l m r x y w =
-      let c = cell 4 0 0 0 in
+      let n : Node = Override in
       record {
-        long = stored_long p₃ c ∙ w.long ∙ y.long ∙ x.long;
+        long = stored_long p₃ n ∙ w.long ∙ y.long ∙ x.long;
         used_is = λ h.
             let a = x.used_is h in
             let b = y.used_is (omega arith) in
             let d = w.used_is (omega arith) in
-            omega (arith, stored_used p₃ c (omega arith));
+            omega (arith, stored_used p₃ n (omega arith));
         before = λ h k i.
             let a = x.used_is h in
             let b = y.used_is (omega arith) in
             let d = w.used_is (omega arith) in
-            stored_below p₃ c k (omega arith) ∙ w.before (omega arith) k (omega arith) ∙ y.before (omega arith) k (omega arith) ∙ x.before h k i;
+            stored_below p₃ n k (omega arith) ∙ w.before (omega arith) k (omega arith) ∙ y.before (omega arith) k (omega arith) ∙ x.before h k i;
         nodes = λ h room.
             let a = x.used_is (omega arith) in
             let b = y.used_is (omega arith) in
             let d = w.used_is (omega arith) in
-            ends_at (omega (arith, stored_used p₃ c (omega arith)))
-            (more_override (label p₃.cells) (label (stored p₃ c).cells) p₃.used (λ k i. ap node_of (stored_below p₃ c k i))
-            (own_node p₃ c refl (w.long ∙ y.long ∙ x.long ∙ h) (omega arith))
-            (encodes_same (λ k i q. ap node_of (w.before (omega arith) k (omega arith) ∙ y.before (omega arith) k q)) (x.nodes h (omega arith)))
-            (encodes_same (λ k i q. ap node_of (w.before (omega arith) k q)) (y.nodes (x.long ∙ h) (omega arith)))
+            ends_at (omega (arith, stored_used p₃ n (omega arith)))
+            (more_override (label p₃.nodes) (label (stored p₃ n).nodes) p₃.used (λ k i. ap node_meant (stored_below p₃ n k i))
+            (own_node p₃ n refl (w.long ∙ y.long ∙ x.long ∙ h) (omega arith))
+            (encodes_same (λ k i q. ap node_meant (w.before (omega arith) k (omega arith) ∙ y.before (omega arith) k q)) (x.nodes h (omega arith)))
+            (encodes_same (λ k i q. ap node_meant (w.before (omega arith) k q)) (y.nodes (x.long ∙ h) (omega arith)))
             (w.nodes (y.long ∙ x.long ∙ h) (omega arith)));
         operators_add = λ z. override_operators p₁ p₂ p₃ l m r x.operators_add y.operators_add w.operators_add z;
       }
 
-  unary_operators : (c : Cell) (p₁ : Nodes) (t t' : Tree Scope) → operators t' ≡ suc (operators t)
-      → ((n : ℕ) → operators_after_lem n c.kind ≡ counted_to most_count n) → (p.operators + operators t ≤ most_count → p₁.operators ≡ p.operators + operators t)
-      → p.operators + operators t' ≤ most_count → (stored p₁ c).operators ≡ p.operators + operators t'
+  unary_operators : (n : Node) (p₁ : Nodes) (t t' : Tree policy.Scope) → operators t' ≡ suc (operators t)
+      → IsOperator n → (p.operators + operators t ≤ most_count → p₁.operators ≡ p.operators + operators t)
+      → p.operators + operators t' ≤ most_count → (stored p₁ n).operators ≡ p.operators + operators t'
   unfolding stored
-  unary_operators c p₁ t t' o ops f z = let a = f (omega arith) in ops p₁.operators ∙ one_more p₁.operators (omega arith) ∙ omega arith
+  unary_operators n p₁ t t' o ops f z = let a = f (omega arith) in ops p₁.operators ∙ omega arith
 
   -- a node with one part
-  counts_unary : (c : Cell) (p₁ : Nodes) (t t' : Tree Scope) → size t' ≡ suc (size t) → operators t' ≡ suc (operators t)
-      → ((at at' : ℕ → Node Scope) (lo hi : ℕ) → ((j : ℕ) → j < hi → at' j ≡ at j) → at' hi ≡ node_of c → Encodes at t lo hi → Encodes at' t' lo (hi + 1))
-      → ((n : ℕ) → operators_after_lem n c.kind ≡ counted_to most_count n) → Counts p p₁ t → Counts p (stored p₁ c) t'
-  counts_unary c p₁ t t' s o larger ops x =
+  counts_unary : (n : Node) (p₁ : Nodes) (t t' : Tree policy.Scope) → size t' ≡ suc (size t) → operators t' ≡ suc (operators t)
+      → ((at at' : ℕ → meanings.Node policy.Scope) (lo hi : ℕ) → ((j : ℕ) → j < hi → at' j ≡ at j) → at' hi ≡ node_meant n
+      → Encodes at t lo hi → Encodes at' t' lo (hi + 1))
+      → IsOperator n → Counts p p₁ t → Counts p (stored p₁ n) t'
+  counts_unary n p₁ t t' s o larger ops x =
       record {
-        long = stored_long p₁ c ∙ x.long;
-        used_is = λ h. let a = x.used_is h in omega (arith, stored_used p₁ c (omega arith));
-        before = λ h k i. let a = x.used_is h in stored_below p₁ c k (omega (arith, some_size t)) ∙ x.before h k i;
+        long = stored_long p₁ n ∙ x.long;
+        used_is = λ h. let a = x.used_is h in omega (arith, stored_used p₁ n (omega arith));
+        before = λ h k i. let a = x.used_is h in stored_below p₁ n k (omega (arith, some_size t)) ∙ x.before h k i;
         nodes = λ h room.
             let a = x.used_is (omega arith) in
-            ends_at (omega (arith, stored_used p₁ c (omega arith)))
-            (larger (label p₁.cells) (label (stored p₁ c).cells) p.used p₁.used (λ k i. ap node_of (stored_below p₁ c k i))
-            (own_node p₁ c refl (x.long ∙ h) (omega arith)) (x.nodes h (omega arith)));
-        operators_add = λ z. unary_operators c p₁ t t' o ops x.operators_add z;
+            ends_at (omega (arith, stored_used p₁ n (omega arith)))
+            (larger (label p₁.nodes) (label (stored p₁ n).nodes) p.used p₁.used (λ k i. ap node_meant (stored_below p₁ n k i))
+            (own_node p₁ n refl (x.long ∙ h) (omega arith)) (x.nodes h (omega arith)));
+        operators_add = λ z. unary_operators n p₁ t t' o ops x.operators_add z;
       }
 
   -- a missing name leaves the nodes and the counts as they are
-  counts_noted : (o : Option ℕ) (i : ℕ) (p₁ : Nodes) (t : Tree Scope) → Counts p p₁ t → Counts p (noted o i p₁) t
-  unfolding noted lacking
+  counts_noted : (o : Option ℕ) (i : ℕ) (p₁ : Nodes) (t : Tree policy.Scope) → Counts p p₁ t → Counts p (noted o i p₁) t
+  unfolding noted
   counts_noted (some m) i p₁ t x = x
   counts_noted none i p₁ t x =
       record { long = x.long; used_is = x.used_is; before = x.before; nodes = x.nodes; operators_add = x.operators_add }
 
-  counts_after : (o : Option ℕ) (i : ℕ) (p₁ : Nodes) (t : Tree Scope) → Counts (noted o i p) p₁ t → Counts p p₁ t
-  unfolding noted lacking
+  counts_after : (o : Option ℕ) (i : ℕ) (p₁ : Nodes) (t : Tree policy.Scope) → Counts (noted o i p) p₁ t → Counts p p₁ t
+  unfolding noted
   counts_after (some m) i p₁ t x = x
   counts_after none i p₁ t x =
       record { long = x.long; used_is = x.used_is; before = x.before; nodes = x.nodes; operators_add = x.operators_add }
 
-pub stored_op_lem : (o : Op) → stored_op (op_number o) ≡ o
-unfolding stored_op op_number
-stored_op_lem le = refl
-stored_op_lem ge = refl
-stored_op_lem lt = refl
-stored_op_lem gt = refl
-stored_op_lem eq = refl
-
 -- no node yet
 pub record Empty (p : Nodes) : Type 0 where
-  pub room : length p.cells ≡ 772
-  pub no_cells : p.used ≡ 0
+  pub room : length p.nodes ≡ 193
+  pub no_nodes : p.used ≡ 0
   pub no_operators : p.operators ≡ 0
-  pub no_place : p.missing ≡ Nowhere
+  pub no_place : p.missing ≡ rust.None
 
 or_else_assoc : (x y z : Option ℕ) → or_else (or_else x y) z ≡ or_else x (or_else y z)
 unfolding or_else
 or_else_assoc none y z = refl
 or_else_assoc (some a) y z = refl
 
--- ---- the cells of an expression are the nodes of its tree
+-- ---- the nodes of an expression are those of its tree
+suffix_operator : (x : Suffix) (m : ℕ) → IsOperator (node_with x m)
+unfolding operators_after
+suffix_operator (Comparing s c) m i = refl
+suffix_operator (Marking s) m i = refl
+suffix_operator Closing m i = refl
+
 module _ (number : Kind → List ℕ → Option ℕ) where
-  counts_s : (c : Grammar.Scope) (i : ℕ) (p p₁ : Nodes) (t : Tree Scope) → Counts p p₁ t → Counts p (emit_s number c i p₁) (scope (scope_of number c) t)
-  unfolding emit_s emit_name scope_of node_of scope_in size operators operators_after_lem
+  counts_name : (x : Suffix) (n : List ℕ) (i : ℕ) (p p₁ : Nodes) (t t' : Tree policy.Scope) → size t' ≡ suc (size t) → operators t' ≡ suc (operators t)
+      → ((at at' : ℕ → meanings.Node policy.Scope) (lo hi : ℕ) → ((j : ℕ) → j < hi → at' j ≡ at j)
+      → at' hi ≡ node_meant (node_with x (place (number (asked_as x) n))) → Encodes at t lo hi → Encodes at' t' lo (hi + 1))
+      → Counts p p₁ t → Counts p (emit_name number x n i p₁) t'
+  unfolding emit_name
+  counts_name x n i p p₁ t t' s o larger y =
+      counts_unary p (node_with x (place (number (asked_as x) n))) _ t t' s o larger (suffix_operator x _) (counts_noted p (number (asked_as x) n) i p₁ t y)
+
+  compare_is : (σ : Sort) (o : Op) (n : List ℕ)
+      → node_meant (node_with (Comparing (sort_named σ) (op_named o)) (place (number (asked_as (Comparing (sort_named σ) (op_named o))) n)))
+      ≡ scope_node (scope_of number (Grammar.compare σ o n))
+  unfolding scope_of
+  compare_is subject o n = rw (meant_op o)
+  compare_is object o n = rw (meant_op o)
+  compare_is action o n = rw (meant_op o)
+
+  marked_is : (σ : Sort) (n : List ℕ) → node_meant (node_with (Marking (sort_named σ)) (place (number (asked_as (Marking (sort_named σ))) n)))
+      ≡ scope_node (scope_of number (Grammar.marked n σ))
+  unfolding scope_of
+  marked_is subject n = refl
+  marked_is object n = refl
+  marked_is action n = refl
+
+  counts_s : (c : Grammar.Scope) (i : ℕ) (p p₁ : Nodes) (t : Tree policy.Scope) → Counts p p₁ t → Counts p (emit_s number c i p₁) (scope (scope_of number c) t)
+  unfolding emit_s size operators
   counts_s (Grammar.compare σ o n) i p p₁ t x =
-      counts_unary p (cell 5 (sort_number σ) (op_number o) (place (number (Names.member σ) n))) _ t _ refl refl
-      (λ at at' lo hi h q. more_scope at at' hi h _ (q ∙ rw (stored_sort_lem σ, stored_op_lem o))) (λ n. refl) (counts_noted p (number (Names.member σ) n) _ p₁ t x)
+      counts_name (Comparing (sort_named σ) (op_named o)) n _ p p₁ t _ refl refl (λ at at' lo hi h q. more_scope at at' hi h _ (q ∙ compare_is σ o n)) x
   counts_s (Grammar.marked n σ) i p p₁ t x =
-      counts_unary p (cell 6 (sort_number σ) 0 (place (number (Names.predicate σ) n))) _ t _ refl refl
-      (λ at at' lo hi h q. more_scope at at' hi h _ (q ∙ rw (stored_sort_lem σ))) (λ n. refl) (counts_noted p (number (Names.predicate σ) n) _ p₁ t x)
+      counts_name (Marking (sort_named σ)) n _ p p₁ t _ refl refl (λ at at' lo hi h q. more_scope at at' hi h _ (q ∙ marked_is σ n)) x
 
   mutual
-    unfolding emit_e tree_e emit_name emit_table node_of size operators operators_after_lem
+    unfolding emit_e tree_e emit_table size operators
 
     counts_e : (xs : List (List ℕ)) (e : Exp) (i : ℕ) (p : Nodes) → Counts p (emit_e number xs e i p) (tree_e number xs e)
     counts_e xs (one f) i p = counts_f xs f i p
@@ -285,9 +311,7 @@ module _ (number : Kind → List ℕ → Option ℕ) where
     counts_f xs (plain q) i p = counts_p xs q i p
     counts_f xs (scoped f c) i p = counts_s c _ p _ _ (counts_f xs f i p)
     counts_f xs (closed_by f n) i p =
-        counts_unary p (cell 7 0 0 (place (number rule-set n))) _ (tree_f number xs f) _ refl refl
-        (λ at at' lo hi h q. more_closure at at' hi h _ q) (λ n. refl)
-        (counts_noted p (number rule-set n) _ _ _ (counts_f xs f i p))
+        counts_name Closing n _ p _ (tree_f number xs f) _ refl refl (λ at at' lo hi h q. more_closure at at' hi h _ q) (counts_f xs f i p)
 
     counts_p : (xs : List (List ℕ)) (q : Pri) (i : ℕ) (p : Nodes) → Counts p (emit_p number xs q i p) (tree_p number xs q)
     counts_p xs (table_name n) i p = counts_after p (bound_as number xs n) i _ _ (counts_table (noted (bound_as number xs n) i p) (table_of number xs n))
@@ -302,7 +326,7 @@ module _ (number : Kind → List ℕ → Option ℕ) where
   declared (x ∷ xs) k n = not (is_free x k n) || declared xs k n
 
   abbrev Misses : List (List ℕ) → Nodes → Nodes → List Named → Type 0
-  Misses xs p p' ns = place_of p'.missing ≡ or_else (place_of p.missing) (first_missing (declared xs) ns)
+  Misses xs p p' ns = found_of p'.missing ≡ or_else (found_of p.missing) (first_missing (declared xs) ns)
 
   first_append : (xs : List (List ℕ)) (ms ns : List Named)
       → first_missing (declared xs) (ms ++ ns) ≡ or_else (first_missing (declared xs) ms) (first_missing (declared xs) ns)
@@ -332,21 +356,21 @@ module _ (number : Kind → List ℕ → Option ℕ) where
       go false e = e
 
   misses_bound : (x : List ℕ) (xs : List (List ℕ)) (p p₁ : Nodes) (ns : List Named) → Misses (x ∷ xs) p p₁ ns → Misses xs p p₁ (free_of x ns)
-  misses_bound x xs p p₁ ns m = m ∙ ap (or_else (place_of p.missing)) (first_bound x xs ns)
+  misses_bound x xs p p₁ ns m = m ∙ ap (or_else (found_of p.missing)) (first_bound x xs ns)
 
   noted_place : (o : Option ℕ) (i : ℕ) (p : Nodes)
-      → place_of (noted o i p).missing ≡ or_else (place_of p.missing) (elim (found o) [ true ↦ none | false ↦ some i ])
-  unfolding noted lacking first_place_lem found or_else
+      → found_of (noted o i p).missing ≡ or_else (found_of p.missing) (elim (found o) [ true ↦ none | false ↦ some i ])
+  unfolding noted first_place found or_else
   noted_place (some m) i p = go p.missing
     where
-      go : (x : Place) → place_of x ≡ or_else (place_of x) none
-      go (At j) = refl
-      go Nowhere = refl
+      go : (x : rust.Option ℕ) → found_of x ≡ or_else (found_of x) none
+      go (rust.Some j) = refl
+      go rust.None = refl
   noted_place none i p = go p.missing
     where
-      go : (x : Place) → place_of (first_place_lem x i) ≡ or_else (place_of x) (some i)
-      go (At j) = refl
-      go Nowhere = refl
+      go : (x : rust.Option ℕ) → found_of (first_place x i) ≡ or_else (found_of x) (some i)
+      go (rust.Some j) = refl
+      go rust.None = refl
 
   -- names that are no tables' are not bound
   other_declared : (xs : List (List ℕ)) (k : Kind) (n : List ℕ) → ((x : List ℕ) → is_free x k n ≡ true) → declared xs k n ≡ found (number k n)
@@ -364,27 +388,31 @@ module _ (number : Kind → List ℕ → Option ℕ) where
       go true e = refl
       go false e = e
 
-  misses_noted : (xs : List (List ℕ)) (k : Kind) (n : List ℕ) (o : Option ℕ) (i : ℕ) (c : Cell) (p p₁ : Nodes) (ms : List Named)
+  misses_noted : (xs : List (List ℕ)) (k : Kind) (n : List ℕ) (o : Option ℕ) (i : ℕ) (c : Node) (p p₁ : Nodes) (ms : List Named)
       → declared xs k n ≡ found o → Misses xs p p₁ ms → Misses xs p (stored (noted o i p₁) c) (ms ++ (entry k n i ∷ []))
   unfolding stored first_missing
   misses_noted xs k n o i c p p₁ ms d x =
       misses_append xs p p₁ (stored (noted o i p₁) c) ms (entry k n i ∷ []) x
-      (noted_place o i p₁ ∙ ap (λ (b : Bool). or_else (place_of p₁.missing) (elim b [ true ↦ none | false ↦ some i ])) (sym d))
+      (noted_place o i p₁ ∙ ap (λ (b : Bool). or_else (found_of p₁.missing) (elim b [ true ↦ none | false ↦ some i ])) (sym d))
 
-  misses_name : (xs : List (List ℕ)) (k : Kind) (n : List ℕ) (i : ℕ) (c : Cell) (p p₁ : Nodes) (ms : List Named) → ((x : List ℕ) → is_free x k n ≡ true)
-      → Misses xs p p₁ ms → Misses xs p (emit_name number k n i c p₁) (ms ++ (entry k n i ∷ []))
+  misses_name : (xs : List (List ℕ)) (s : Suffix) (n : List ℕ) (i : ℕ) (p p₁ : Nodes) (ms : List Named) → ((x : List ℕ) → is_free x (asked_as s) n ≡ true)
+      → Misses xs p p₁ ms → Misses xs p (emit_name number s n i p₁) (ms ++ (entry (asked_as s) n i ∷ []))
   unfolding emit_name
-  misses_name xs k n i c p p₁ ms h x = misses_noted xs k n (number k n) i _ p p₁ ms (other_declared xs k n h) x
+  misses_name xs s n i p p₁ ms h x = misses_noted xs (asked_as s) n (number (asked_as s) n) i _ p p₁ ms (other_declared xs (asked_as s) n h) x
 
   misses_s : (xs : List (List ℕ)) (c : Grammar.Scope) (i : ℕ) (p p₁ : Nodes) (ms : List Named) → Misses xs p p₁ ms
       → Misses xs p (emit_s number c i p₁) (ms ++ names_s c i)
   unfolding emit_s names_s is_free
-  misses_s xs (Grammar.compare σ o n) i p p₁ ms x = misses_name xs (Names.member σ) n _ _ p p₁ ms (λ y. refl) x
-  misses_s xs (Grammar.marked n σ) i p p₁ ms x = misses_name xs (Names.predicate σ) n i _ p p₁ ms (λ y. refl) x
+  misses_s xs (Grammar.compare subject o n) i p p₁ ms x = misses_name xs (Comparing Subject (op_named o)) n _ p p₁ ms (λ y. refl) x
+  misses_s xs (Grammar.compare object o n) i p p₁ ms x = misses_name xs (Comparing Object (op_named o)) n _ p p₁ ms (λ y. refl) x
+  misses_s xs (Grammar.compare action o n) i p p₁ ms x = misses_name xs (Comparing Action (op_named o)) n _ p p₁ ms (λ y. refl) x
+  misses_s xs (Grammar.marked n subject) i p p₁ ms x = misses_name xs (Marking Subject) n i p p₁ ms (λ y. refl) x
+  misses_s xs (Grammar.marked n object) i p p₁ ms x = misses_name xs (Marking Object) n i p p₁ ms (λ y. refl) x
+  misses_s xs (Grammar.marked n action) i p p₁ ms x = misses_name xs (Marking Action) n i p p₁ ms (λ y. refl) x
 
   misses_none : (xs : List (List ℕ)) (p : Nodes) → Misses xs p p []
   unfolding or_else first_missing
-  misses_none xs p = go (place_of p.missing)
+  misses_none xs p = go (found_of p.missing)
     where
       go : (x : Option ℕ) → x ≡ or_else x none
       go none = refl
@@ -401,11 +429,11 @@ module _ (number : Kind → List ℕ → Option ℕ) where
     misses_f : (xs : List (List ℕ)) (f : Fac) (i : ℕ) (p : Nodes) → Misses xs p (emit_f number xs f i p) (names_f f i)
     misses_f xs (plain q) i p = misses_p xs q i p
     misses_f xs (scoped f c) i p = misses_s xs c _ p (emit_f number xs f i p) (names_f f i) (misses_f xs f i p)
-    misses_f xs (closed_by f n) i p = misses_name xs rule-set n _ _ p (emit_f number xs f i p) (names_f f i) (λ y. refl) (misses_f xs f i p)
+    misses_f xs (closed_by f n) i p = misses_name xs Closing n _ p (emit_f number xs f i p) (names_f f i) (λ y. refl) (misses_f xs f i p)
 
     misses_p : (xs : List (List ℕ)) (q : Pri) (i : ℕ) (p : Nodes) → Misses xs p (emit_p number xs q i p) (names_p q i)
     misses_p xs (table_name n) i p =
-        misses_noted xs Names.table n (bound_as number xs n) i (cell 0 0 0 (table_of number xs n)) p p [] (table_declared xs n) (misses_none xs p)
+        misses_noted xs Names.table n (bound_as number xs n) i (Table (table_of number xs n)) p p [] (table_declared xs n) (misses_none xs p)
     misses_p xs (bracket e) i p = misses_e xs e _ p
     misses_p xs (Grammar.override e f g) i p =
         let u : ℕ = i + 2 + length (text_e e) + 1 in
@@ -464,14 +492,14 @@ module _ (number : Kind → List ℕ → Option ℕ) where
   yields e p z l =
       let t = tree_of number e in
       let x = counts_e [] e 0 p in
-      let u = z.no_cells in
+      let u = z.no_nodes in
       let fill = filled_e number [] e 0 p record { long = z.room; few = omega arith; within = λ m j b. absurd (omega arith) } in
       record {
         long = fill.long;
         few = fill.few;
-        tree = λ o. subst (λ i. Encodes (label (emit_e number [] e 0 p).cells) t i (emit_e number [] e 0 p).used) u
+        tree = λ o. subst (λ i. Encodes (label (emit_e number [] e 0 p).nodes) t i (emit_e number [] e 0 p).used) u
             (x.nodes z.room (omega (arith, size_le t)));
         operators_are = omega (arith, z.no_operators, operators_e [] e, x.operators_add (omega (arith, z.no_operators, operators_e [] e)));
-        missing_is = misses_e [] e 0 p ∙ ap (λ (m : Place). or_else (place_of m) (first_missing (declared []) (names_e e 0))) z.no_place;
+        missing_is = misses_e [] e 0 p ∙ ap (λ (m : rust.Option ℕ). or_else (found_of m) (first_missing (declared []) (names_e e 0))) z.no_place;
         within = fill.within;
       }

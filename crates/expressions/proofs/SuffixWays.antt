@@ -1,26 +1,16 @@
 -- The ways through the readers of scopes and closures after a primary. Assumes nothing.
-use mathlib.Core.Path.{◌≡◌, refl, ap, subst, ◌∙◌}
-use mathlib.Core.Bool.{true, false}
-use mathlib.Core.List.{List, [], ◌∷◌, ◌++◌}
-use mathlib.Core.Option.{Option}
-use Prim.Native.Nat.{ℕ, ◌+◌, ◌≤◌, ◌<◌}
-use native.Mathlib.Omega.{arith}
-use lib.ListN.{length, get_or, drop, length-append}
-use lib.Seq.{slice, length-slice}
+use Rattle.std.proofs.Common.{◌≡◌, refl, ap, ◌∙◌, true, false, List, [], ◌∷◌, ◌++◌, Result, Ok, Err, ℕ, ◌+◌, ◌≤◌, ◌<◌, length, get_or, drop, subst, sym, arith}
+use Rattle.std.proofs.Common.{length-append}
+use Rattle.std.proofs.Math.Option.{Option}
+use Rattle.std.proofs.Math.Seq.{slice, length-slice}
 use borrow.Author.Tests.{eqb-true, ne_eqb}
 use Rattle.grammar.specs.Expression.{Fac, scoped, closed_by, text_s, text_f}
 use Rattle.grammar.specs.Machine.{Left, Frame, at_ruleset, at_scope, begin, have, caret, onward, named, named_end, finish, grows, step, run}
 use Rattle.grammar.specs.Names.{Kind}
-use Rattle.names.specs.Entries.{kind_of}
-use Rattle.nodes.specs.Cells.{cell}
 use Rattle.words.specs.Cells.{emit_name, emit_s, emit_f}
-use Rattle.words.specs.Contract.{suffix_byte, Starts, Strict, Name, ScopeAt, ReadsSuffixes, SuffixAt, SuffixesAt}
-use Rattle.words.specs.declared.Parsed.{Parsed}
-use Rattle.words.specs.declared.Parsed.TheVariants.{Good, Bad}
-use Rattle.names.specs.declared.NameKind.TheVariants.{RuleSet}
-use Rattle.words.specs.declared.ScopeText.{ScopeText}
-use Rattle.words.specs.declared.ScopeRead.{ScopeRead}
-use Rattle.words.specs.declared.ScopeRead.TheVariants.{Scoped, NoScope}
+use Rattle.words.specs.Contract.{suffix_byte, Past, Starts, Strict, Name, ScopeAt, ReadsSuffixes, SuffixAt, SuffixesAt}
+use Rattle.words.specs.declared.Suffix.TheVariants.{Closing}
+use Rattle.words.specs.declared.SuffixText.{SuffixText}
 use Rattle.words.specs.declared.Nodes.{Nodes}
 use Rattle.grammar.proofs.Machine.{in_text, is_in_lem, run_none, run_byte, next_byte, settle_ruleset}
 
@@ -35,34 +25,29 @@ ruleset_starts a ks l f b = record { steps = refl; ends = refl }
 -- ---- what the calls on the way ask for
 module _ (t : List ℕ) (at : ℕ) where
   pub x_in : suffix_byte (get_or t at 0) ≡ true → at < length t
-  unfolding suffix_byte
   x_in e = in_text suffix_byte refl t at e
 
-  pub x_in_2 : get_or t at 0 ≡ 91 → at < length t
-  x_in_2 b = is_in_lem 91 t at b (omega arith)
+  pub x_in_2 : (i : ℕ) → Past t at 91 (Ok i) → i ≤ length t
+  x_in_2 i b = omega (arith, b.0, is_in_lem 91 t at b.1 (omega arith))
 
 module _ (t : List ℕ) (at : ℕ) where
   -- ---- a closure
   module _ (e : suffix_byte (get_or t at 0) ≡ true) (x : get_or t at 0 ≡ 94 → ⊥) where
     is_star : get_or t at 0 ≡ 42
-    unfolding suffix_byte
     is_star = eqb-true _ 42 (rw (ne_eqb _ 94 x) at e)
 
     to_star : (a : ℕ) (ks : List Frame) (l : Left) (f : Fac) → run (drop at t) (have a ks l f) ≡ run (drop (at + 1) t) (begin a ks (at_ruleset l f))
     unfolding step onward
     to_star a ks l f = run_byte t at 42 (have a ks l f) (begin a ks (at_ruleset l f)) is_star (omega arith) refl
 
-    pub x_no_name : {n : ℕ} {r : Parsed} → r ≡ Bad n → Name t (at + 1) r → SuffixAt t at (NoScope n)
+    pub x_no_name : (n : ℕ) → Name t (at + 1) (Err n) → SuffixAt t at (Err n)
     unfolding SuffixAt Name
-    x_no_name q y =
-        let s = subst (Name t (at + 1)) q y in
+    x_no_name n s =
         record { within = s.within; stops = λ a ks l f. to_star a ks l f ∙ s.stops a ks (at_ruleset l f) _ (strict_ruleset l f) (ruleset_starts a ks l f _) }
 
-    pub x_name : {n : ℕ} {r : Parsed} → r ≡ Good n → Name t (at + 1) r
-        → SuffixAt t at (Scoped (record { name = RuleSet; cell = cell 7 0 0 0; from = at + 1; to = n; next = n }))
+    pub x_name : (n : ℕ) → Name t (at + 1) (Ok n) → SuffixAt t at (Ok (record { suffix = Closing; from = at + 1; to = n; next = n }))
     unfolding SuffixAt Name text_f emit_f
-    x_name {n} q y =
-        let s = subst (Name t (at + 1)) q y in
+    x_name n s =
         let m : List ℕ = slice (at + 1) n t in
         let g : grows m (get_or (drop n t) 0 0) ≡ false = ap (grows m) (next_byte t n) ∙ s.over in
         let k = length-slice (at + 1) n t s.within in (
@@ -87,22 +72,28 @@ module _ (t : List ℕ) (at : ℕ) where
     unfolding step onward
     to_caret a ks l f = run_byte t at 94 (have a ks l f) (caret a ks l f) e (omega arith) refl
 
-    pub x_square : (get_or t (at + 1) 0 ≡ 91 → ⊥) → SuffixAt t at (NoScope (at + 1))
+    pub x_square : (p : ℕ) → Past t (at + 1) 91 (Err p) → SuffixAt t at (Err p)
     unfolding SuffixAt step finish
-    x_square x =
+    x_square p x =
         let i = is_in_lem 94 t at e (omega arith) in
-        record { within = omega arith; stops = λ a ks l f. to_caret a ks l f ∙ run_none t (at + 1) (caret a ks l f) (omega arith) (rw (ne_eqb _ 91 x)) refl }
+        subst (λ (j : ℕ). SuffixAt t at (Err j)) (sym x.0) record {
+          within = omega arith;
+          stops = λ a ks l f. to_caret a ks l f ∙ run_none t (at + 1) (caret a ks l f) (omega arith) (rw (ne_eqb _ 91 x.1)) refl;
+        }
 
-    module _ (b : get_or t (at + 1) 0 ≡ 91) where
-      to_scope : (a : ℕ) (ks : List Frame) (l : Left) (f : Fac) → run (drop at t) (have a ks l f) ≡ run (drop (at + 1 + 1) t) (begin a ks (at_scope l f))
+    module _ (inside : ℕ) (b : Past t (at + 1) 91 (Ok inside)) where
+      to_scope : (a : ℕ) (ks : List Frame) (l : Left) (f : Fac) → run (drop at t) (have a ks l f) ≡ run (drop inside t) (begin a ks (at_scope l f))
       unfolding step
-      to_scope a ks l f = to_caret a ks l f ∙ run_byte t (at + 1) 91 (caret a ks l f) (begin a ks (at_scope l f)) b (omega arith) refl
+      to_scope a ks l f =
+          to_caret a ks l f ∙ run_byte t (at + 1) 91 (caret a ks l f) (begin a ks (at_scope l f)) b.1 (omega arith) refl
+          ∙ ap (λ (j : ℕ). run (drop j t) (begin a ks (at_scope l f))) (sym b.0)
 
-      pub x_scope : (r : ScopeRead) → ScopeAt t (at + 1 + 1) r → SuffixAt t at r
+      pub x_scope : (r : Result SuffixText ℕ) → ScopeAt t inside r → SuffixAt t at r
       unfolding SuffixAt ScopeAt text_f emit_f
-      x_scope (NoScope n) s = record { within = s.within; stops = λ a ks l f. to_scope a ks l f ∙ s.stops a ks l f }
-      x_scope (Scoped x) s =
-          let n = s.spans in (
+      x_scope (Err n) s = record { within = s.within; stops = λ a ks l f. to_scope a ks l f ∙ s.stops a ks l f }
+      x_scope (Ok x) s =
+          let n = s.spans in
+          let h : inside ≡ at + 1 + 1 = b.0 in (
             s.ordered,
             s.in_text,
             omega (arith, s.past),
@@ -111,8 +102,8 @@ module _ (t : List ℕ) (at : ℕ) where
                   with = λ f. scoped f s.tree;
                   past = omega (arith, s.past);
                   within = s.within;
-                  spans = λ f. omega (arith, n, length-append (text_f f) (94 ∷ 91 ∷ (text_s s.tree ++ (93 ∷ []))), length-append (text_s s.tree) (93 ∷ []));
-                  emits = λ xs f i u h w. s.emits number p ∙ ap (λ (v : Nodes). emit_s number s.tree (at + 1 + 1) v) w
+                  spans = λ f. omega (arith, n, h, length-append (text_f f) (94 ∷ 91 ∷ (text_s s.tree ++ (93 ∷ []))), length-append (text_s s.tree) (93 ∷ []));
+                  emits = λ xs f i u h w. s.emits number p ∙ ap (λ (v : Nodes). emit_s number s.tree inside v) w
                       ∙ ap (λ (j : ℕ). emit_s number s.tree j (emit_f number xs f i u)) (omega arith);
                   reads = λ a ks l f. to_scope a ks l f ∙ s.reads a ks l f;
                 },
@@ -125,20 +116,16 @@ module _ (number : Kind → List ℕ → Option ℕ) (t : List ℕ) (at : ℕ) (
       record { with = λ f. f; past = omega arith; within = h; spans = λ f. refl; emits = λ xs f i u e w. w; reads = λ a ks l f. refl }
 
   module _ (i : ℕ) (q : Nodes) (x : ReadsSuffixes number t at i p q) where
-    pub xs_end : suffix_byte (get_or t i 0) ≡ false → SuffixesAt number t at p q (Good i)
+    pub xs_end : suffix_byte (get_or t i 0) ≡ false → SuffixesAt number t at p q (Ok i)
     unfolding SuffixesAt
     xs_end e = (x, e)
 
-    pub xs_bad : (p' : Nodes) {n : ℕ} {r : ScopeRead} → r ≡ NoScope n → SuffixAt t i r → SuffixesAt number t at p p' (Bad n)
+    pub xs_bad : (p' : Nodes) (n : ℕ) → SuffixAt t i (Err n) → SuffixesAt number t at p p' (Err n)
     unfolding SuffixAt SuffixesAt
-    xs_bad p' e y =
-        let s = subst (SuffixAt t i) e y in
+    xs_bad p' n s =
         record { within = s.within; stops = λ a ks l f. x.reads a ks l f ∙ s.stops a ks l (x.with f) }
 
-    module _ {y : ScopeText} {r : ScopeRead} (e : r ≡ Scoped y) (z : SuffixAt t i r) where
-      the_suffix : SuffixAt t i (Scoped y)
-      the_suffix = subst (SuffixAt t i) e z
-
+    module _ (y : SuffixText) (the_suffix : SuffixAt t i (Ok y)) where
       pub xs_in : (y.from ≤ y.to) × (y.to ≤ length t)
       unfolding SuffixAt
       xs_in = (the_suffix.0, the_suffix.1)
@@ -147,7 +134,7 @@ module _ (number : Kind → List ℕ → Option ℕ) (t : List ℕ) (at : ℕ) (
       unfolding SuffixAt
       xs_past = (the_suffix.2, (the_suffix.3 number q).within)
 
-      pub xs_next : (q' : Nodes) → q' ≡ emit_name number (kind_of y.name) (slice y.from y.to t) y.from y.cell q
+      pub xs_next : (q' : Nodes) → q' ≡ emit_name number y.suffix (slice y.from y.to t) y.from q
           → ReadsSuffixes number t at y.next p q'
       unfolding SuffixAt
       xs_next q' g =

@@ -1,783 +1,278 @@
 // Reading an expression: it is read, its names are looked up, and the nodes of its tree are made; or the place of its first wrong byte. While it is
-// read, the cells of the nodes stand in one slice, which each function lends on, so that an open bracket costs little room.
+// read, the nodes are lent on by each function, so that an open bracket costs little room.
 #![tactic(auto)]
 
 mod text_reader;
 
-ghost use Rattle.std.specs.Prelude.{◌≡◌, true, [], ◌∷◌, ◌+◌, ◌≤◌, ◌<◌, length, get_or};
+ghost use Rattle.std.specs.Prelude.{◌≡◌, true, ◌∷◌, ◌+◌, ◌≤◌, ◌<◌, length, get_or, take};
 ghost use Rattle.std.proofs.Math.Seq.{slice};
 ghost use Rattle.words.specs.Contract.{suffix_byte, Bound, SuffixAt, SuffixesAt, PrimaryAt, FactorAt, MoreAt, ExpressionAt, PartAt, OverrideAt};
 ghost use Rattle.words.specs.Contract.{FillingAt, TemplateAt, Answer};
-ghost use Rattle.words.specs.Cells.{nodes_in};
 ghost use Rattle.name_index.specs.Parts.{names_at};
-ghost use Rattle.names.specs.Entries.{Sound, lookup_in};
+ghost use Rattle.names.specs.Looks.{lookup_of};
 
-use names::{NameCounts, NameKind};
-use nodes::Cell;
-use text_reader::{ends_at, from_start};
+use algebra::Sort;
+use name_index::Place;
+use names::Names;
+use nodes::Node;
+use text_reader::Reader;
 use words::{
-    Drawn, Made, Nodes, Parsed, Passed, Place, ScopeRead, ScopeText, is_binding, is_settled,
-    is_suffix, peek, put, put_first, put_name, put_table, read_name, scope, sign, word,
-    word_letter,
+    Letter, Nodes, Source, Suffix, SuffixText, is_binding, is_suffix, past, peek, read_name, scope,
+    sign, word, word_letter,
 };
 
-// ---- the parts of an expression. Each is lent the cells so far, in the slice m, and takes what is known of them, and how many brackets more may be opened.
-// Where so many names are bound, the innermost first, they stand in t from firsts[i] up to lasts[i].
+// ---- the parts of an expression. Each takes the names that are bound, the innermost first, the place where the part begins, and how many brackets more may
+// be opened. It adds the part's nodes to those so far, and yields where the text goes on, or the place of the first byte that is wrong.
 
 // A scope or a closure after a primary.
-fn suffix(t: &[u8], at: usize) -> ScopeRead
+fn suffix(t: &[u8], at: usize) -> Result<SuffixText, usize>
     requires { suffix_byte (get_or t.now at 0) ≡ true }
     ensures { SuffixAt t.now at result }
 {
-    let n = at + 1;
-    if peek(t, at) != b'^' {
-        match read_name(t, n) {
-            Parsed::Bad(e) => {
-                return ScopeRead::NoScope(e);
-            }
-            Parsed::Good(e) => {
-                let cell = Cell {
-                    kind: 7,
-                    sort: 0,
-                    op: 0,
-                    number: 0,
-                };
-                return ScopeRead::Scoped(ScopeText {
-                    name: NameKind::RuleSet,
-                    cell: cell,
-                    from: n,
-                    to: e,
-                    next: e,
-                });
-            }
-        }
+    let from = at + 1;
+    if peek(t, at) == b'^' {
+        let inside = past(t, from, b'[')?;
+        return scope(t, inside);
     }
-    if peek(t, n) != b'[' {
-        return ScopeRead::NoScope(n);
-    }
-    scope(t, n + 1)
+    let to = read_name(t, from)?;
+    Ok(SuffixText {
+        suffix: Suffix::Closing,
+        from,
+        to,
+        next: to,
+    })
 }
 
-fn suffixes<'a>(
-    m: &mut [u8],
-    t: &'a [u8],
-    at: usize,
-    f: &'a [u8],
-    starts: &'a [u16],
-    ends: &'a [u16],
-    tags: &'a [u8],
-    counts: NameCounts,
-    p: Drawn,
-) -> Passed
-    requires { Sound f.now starts.now ends.now tags.now counts × (at ≤ length t.now) × (772 ≤ length m.old) }
-    ensures { SuffixesAt (lookup_in f.now starts.now ends.now tags.now counts) t.now at
-        (nodes_in m.old p) (nodes_in m.new result.drawn) result.answer }
+fn suffixes(source: &Source, at: usize, nodes: &mut Nodes) -> Result<usize, usize>
+    requires { at ≤ length source.now.text.now }
+    ensures { SuffixesAt (lookup_of source.now.names.now) source.now.text.now at nodes.old nodes.new result }
 {
-    let mut q = p;
     let mut i = at;
-    while is_suffix(peek(t, i)) {
-        match suffix(t, i) {
-            ScopeRead::NoScope(e) => {
-                return Passed {
-                    answer: Parsed::Bad(e),
-                    drawn: p,
-                };
-            }
-            ScopeRead::Scoped(x) => {
-                let name = x.name;
-                let cell = x.cell;
-                let missing = q.missing;
-                i = x.next;
-                // an expression may have thousands of suffixes
-                if is_settled(q.used, missing) {
-                    q = put(m, q, cell);
-                    continue;
-                }
-                q = put_name(
-                    m, f, starts, ends, tags, counts, name, t, x.from, x.to, cell, q,
-                );
-            }
-        }
+    while is_suffix(peek(source.text, i)) {
+        let x = suffix(source.text, i)?;
+        nodes.put_name(source, x);
+        i = x.next;
     }
-    Passed {
-        answer: Parsed::Good(i),
-        drawn: q,
-    }
+    Ok(i)
 }
 
 #[cycle(body_expression_factor_filling_more_overridden_part_primary_template)]
-fn primary<'a>(
-    m: &mut [u8],
-    t: &'a [u8],
+fn primary(
+    source: &Source,
+    bound: &[Place],
     at: usize,
     allow: usize,
-    firsts: &'a [u16],
-    lasts: &'a [u16],
-    bound: u8,
-    f: &'a [u8],
-    starts: &'a [u16],
-    ends: &'a [u16],
-    tags: &'a [u8],
-    counts: NameCounts,
-    p: Drawn,
-) -> Passed
-    requires sound { Sound f.now starts.now ends.now tags.now counts × (at ≤ length t.now) × (772 ≤ length m.old) }
-    requires bound { Bound t.now firsts.now lasts.now bound allow counts.tables }
-    ensures { PrimaryAt (lookup_in f.now starts.now ends.now tags.now counts)
-        (names_at t.now firsts.now lasts.now 0 bound) t.now at allow
-        (nodes_in m.old p) (nodes_in m.new result.drawn) result.answer }
+    nodes: &mut Nodes,
+) -> Result<usize, usize>
+    requires place { at ≤ length source.now.text.now }
+    requires bound { Bound source.now.text.now bound.now allow }
+    ensures { PrimaryAt (lookup_of source.now.names.now) (names_at source.now.text.now bound.now) source.now.text.now at allow nodes.old nodes.new result }
 {
+    let t = source.text;
     if peek(t, at) == b'(' {
         if allow == 0 {
-            return Passed {
-                answer: Parsed::Bad(at),
-                drawn: p,
-            };
+            return Err(at);
         }
         if is_binding(t, at + 1) {
-            return template(
-                m,
-                t,
-                at + 3,
-                allow - 1,
-                firsts,
-                lasts,
-                bound,
-                f,
-                starts,
-                ends,
-                tags,
-                counts,
-                p,
-            );
+            return template(source, bound, at + 3, allow - 1, nodes);
         }
-        let v = part(
-            m,
-            t,
-            at + 1,
-            allow - 1,
-            b')',
-            firsts,
-            lasts,
-            bound,
-            f,
-            starts,
-            ends,
-            tags,
-            counts,
-            p,
-        );
-        let k = v.answer;
-        let q = v.drawn;
-        match k {
-            Parsed::Bad(e) => {
-                return Passed {
-                    answer: Parsed::Bad(e),
-                    drawn: p,
-                };
-            }
-            Parsed::Good(e) => {
-                return Passed {
-                    answer: Parsed::Good(e + 1),
-                    drawn: q,
-                };
-            }
-        }
+        return part(source, bound, at + 1, allow - 1, b')', nodes);
     }
-    match word(t, at) {
-        Parsed::Bad(e) => Passed {
-            answer: Parsed::Bad(e),
-            drawn: p,
-        },
-        Parsed::Good(e) => {
-            let letter = word_letter(t, at, e);
-            if letter == 3 {
-                let q = put_table(
-                    m, f, starts, ends, tags, counts, firsts, lasts, bound, t, at, e, p,
-                );
-                return Passed {
-                    answer: Parsed::Good(e),
-                    drawn: q,
-                };
-            }
-            if letter != 1 {
-                return Passed {
-                    answer: Parsed::Bad(e),
-                    drawn: p,
-                };
-            }
-            if peek(t, e) != b'(' {
-                return Passed {
-                    answer: Parsed::Bad(e),
-                    drawn: p,
-                };
-            }
-            if allow == 0 {
-                return Passed {
-                    answer: Parsed::Bad(e),
-                    drawn: p,
-                };
-            }
-            overridden(
-                m,
-                t,
-                e + 1,
-                allow - 1,
-                firsts,
-                lasts,
-                bound,
-                f,
-                starts,
-                ends,
-                tags,
-                counts,
-                p,
-            )
+    let end = word(t, at)?;
+    match word_letter(&t[at..end]) {
+        None => {
+            nodes.put_table(source, bound, at, end);
+            Ok(end)
         }
+        Some(Letter::OfSort(Sort::Object)) => {
+            let first = past(t, end, b'(')?;
+            if allow == 0 {
+                return Err(end);
+            }
+            overridden(source, bound, first, allow - 1, nodes)
+        }
+        Some(Letter::OfSort(Sort::Subject)) => Err(end),
+        Some(Letter::OfSort(Sort::Action)) => Err(end),
+        Some(Letter::OfTemplate) => Err(end),
     }
 }
 
 // The three parts of 'o(', from the first on.
 #[cycle(body_expression_factor_filling_more_overridden_part_primary_template)]
-fn overridden<'a>(
-    m: &mut [u8],
-    t: &'a [u8],
+fn overridden(
+    source: &Source,
+    bound: &[Place],
     at: usize,
     allow: usize,
-    firsts: &'a [u16],
-    lasts: &'a [u16],
-    bound: u8,
-    f: &'a [u8],
-    starts: &'a [u16],
-    ends: &'a [u16],
-    tags: &'a [u8],
-    counts: NameCounts,
-    p: Drawn,
-) -> Passed
-    requires sound { Sound f.now starts.now ends.now tags.now counts × (at ≤ length t.now) × (772 ≤ length m.old) }
-    requires bound { Bound t.now firsts.now lasts.now bound allow counts.tables }
-    ensures { OverrideAt (lookup_in f.now starts.now ends.now tags.now counts)
-        (names_at t.now firsts.now lasts.now 0 bound) t.now at allow
-        (nodes_in m.old p) (nodes_in m.new result.drawn) result.answer }
+    nodes: &mut Nodes,
+) -> Result<usize, usize>
+    requires place { at ≤ length source.now.text.now }
+    requires bound { Bound source.now.text.now bound.now allow }
+    ensures { OverrideAt (lookup_of source.now.names.now) (names_at source.now.text.now bound.now) source.now.text.now at allow nodes.old nodes.new result }
 {
-    let v = part(
-        m, t, at, allow, b',', firsts, lasts, bound, f, starts, ends, tags, counts, p,
-    );
-    let k = v.answer;
-    let q = v.drawn;
-    match k {
-        Parsed::Bad(e) => Passed {
-            answer: Parsed::Bad(e),
-            drawn: p,
-        },
-        Parsed::Good(i) => {
-            let v2 = part(
-                m,
-                t,
-                i + 1,
-                allow,
-                b',',
-                firsts,
-                lasts,
-                bound,
-                f,
-                starts,
-                ends,
-                tags,
-                counts,
-                q,
-            );
-            let k2 = v2.answer;
-            let q2 = v2.drawn;
-            match k2 {
-                Parsed::Bad(e) => Passed {
-                    answer: Parsed::Bad(e),
-                    drawn: p,
-                },
-                Parsed::Good(j) => {
-                    let v3 = part(
-                        m,
-                        t,
-                        j + 1,
-                        allow,
-                        b')',
-                        firsts,
-                        lasts,
-                        bound,
-                        f,
-                        starts,
-                        ends,
-                        tags,
-                        counts,
-                        q2,
-                    );
-                    let k3 = v3.answer;
-                    let q3 = v3.drawn;
-                    match k3 {
-                        Parsed::Bad(e) => Passed {
-                            answer: Parsed::Bad(e),
-                            drawn: p,
-                        },
-                        Parsed::Good(n) => {
-                            let cell = Cell {
-                                kind: 4,
-                                sort: 0,
-                                op: 0,
-                                number: 0,
-                            };
-                            let q4 = put(m, q3, cell);
-                            Passed {
-                                answer: Parsed::Good(n + 1),
-                                drawn: q4,
-                            }
-                        }
-                    }
-                }
-            }
-        }
-    }
+    let second = part(source, bound, at, allow, b',', nodes)?;
+    let third = part(source, bound, second, allow, b',', nodes)?;
+    let end = part(source, bound, third, allow, b')', nodes)?;
+    nodes.put(Node::Override);
+    Ok(end)
 }
 
 // A template, from its x on: a name, a point, E where that name is bound, and F.
 #[cycle(body_expression_factor_filling_more_overridden_part_primary_template)]
-fn template<'a>(
-    m: &mut [u8],
-    t: &'a [u8],
+fn template(
+    source: &Source,
+    bound: &[Place],
     at: usize,
     allow: usize,
-    firsts: &'a [u16],
-    lasts: &'a [u16],
-    bound: u8,
-    f: &'a [u8],
-    starts: &'a [u16],
-    ends: &'a [u16],
-    tags: &'a [u8],
-    counts: NameCounts,
-    p: Drawn,
-) -> Passed
-    requires sound { Sound f.now starts.now ends.now tags.now counts × (at ≤ length t.now) × (772 ≤ length m.old) }
-    requires bound { Bound t.now firsts.now lasts.now bound (allow + 1) counts.tables }
-    ensures { TemplateAt (lookup_in f.now starts.now ends.now tags.now counts)
-        (names_at t.now firsts.now lasts.now 0 bound) t.now at allow
-        (nodes_in m.old p) (nodes_in m.new result.drawn) result.answer }
+    nodes: &mut Nodes,
+) -> Result<usize, usize>
+    requires place { at ≤ length source.now.text.now }
+    requires bound { Bound source.now.text.now bound.now (allow + 1) }
+    ensures { TemplateAt (lookup_of source.now.names.now) (names_at source.now.text.now bound.now) source.now.text.now at allow nodes.old nodes.new result }
 {
-    match read_name(t, at) {
-        Parsed::Bad(e) => Passed {
-            answer: Parsed::Bad(e),
-            drawn: p,
-        },
-        Parsed::Good(to) => {
-            if peek(t, to) != b'.' {
-                return Passed {
-                    answer: Parsed::Bad(to),
-                    drawn: p,
-                };
-            }
-            let v = body(
-                m, t, at, allow, to, firsts, lasts, bound, f, starts, ends, tags, counts, p,
-            );
-            let k = v.answer;
-            let q = v.drawn;
-            match k {
-                Parsed::Bad(e) => Passed {
-                    answer: Parsed::Bad(e),
-                    drawn: p,
-                },
-                Parsed::Good(i) => filling(
-                    m,
-                    t,
-                    i + 1,
-                    allow,
-                    firsts,
-                    lasts,
-                    bound,
-                    f,
-                    starts,
-                    ends,
-                    tags,
-                    counts,
-                    q,
-                ),
-            }
-        }
-    }
+    let t = source.text;
+    let to = read_name(t, at)?;
+    let start = past(t, to, b'.')?;
+    let after = body(source, bound, at, to, start, allow, nodes)?;
+    filling(source, bound, after, allow, nodes)
 }
 
-// E of a template, behind its x, which stands from `at` up to `to`, and the point.
-#[cycle(body_expression_factor_filling_more_overridden_part_primary_template)]
-fn body<'a>(
-    m: &mut [u8],
-    t: &'a [u8],
-    at: usize,
-    allow: usize,
-    to: usize,
-    firsts: &'a [u16],
-    lasts: &'a [u16],
-    bound: u8,
-    f: &'a [u8],
-    starts: &'a [u16],
-    ends: &'a [u16],
-    tags: &'a [u8],
-    counts: NameCounts,
-    p: Drawn,
-) -> Passed
-    requires sound { Sound f.now starts.now ends.now tags.now counts × (at ≤ to) × (to < length t.now) × (772 ≤ length m.old) }
-    requires bound { Bound t.now firsts.now lasts.now bound (allow + 1) counts.tables }
-    ensures { PartAt (lookup_in f.now starts.now ends.now tags.now counts)
-        (slice at to t.now ∷ names_at t.now firsts.now lasts.now 0 bound) t.now (to + 1) allow 41
-        (nodes_in m.old p) (nodes_in m.new result.drawn) result.answer }
+// The bound names with one more before them, and what else is in the array.
+fn with_first(bound: &[Place], x: Place) -> [Place; 32]
+    requires { length bound.now < 32 }
+    ensures { take (length bound.now + 1) result ≡ x ∷ bound.now }
 {
-    let s = put_first(firsts, bound, at);
-    let e = put_first(lasts, bound, to);
-    part(
-        m,
-        t,
-        to + 1,
-        allow,
-        b')',
-        &s,
-        &e,
-        bound + 1,
-        f,
-        starts,
-        ends,
-        tags,
-        counts,
-        p,
-    )
+    let mut names = [x; 32];
+    names[1..bound.len() + 1].copy_from_slice(bound);
+    names
+}
+
+// E of a template and its bracket, from `start` on; the template's x stands from `at` up to `to`.
+#[cycle(body_expression_factor_filling_more_overridden_part_primary_template)]
+fn body(
+    source: &Source,
+    bound: &[Place],
+    at: usize,
+    to: usize,
+    start: usize,
+    allow: usize,
+    nodes: &mut Nodes,
+) -> Result<usize, usize>
+    requires place { (at ≤ to) × (to < start) × (start ≤ length source.now.text.now) }
+    requires bound { Bound source.now.text.now bound.now (allow + 1) }
+    ensures { PartAt (lookup_of source.now.names.now) (slice at to source.now.text.now ∷ names_at source.now.text.now bound.now)
+        source.now.text.now start allow 41 nodes.old nodes.new result }
+{
+    let x = Place {
+        from: at as u16,
+        to: to as u16,
+    };
+    let names = with_first(bound, x);
+    part(source, &names[..bound.len() + 1], start, allow, b')', nodes)
 }
 
 // F of a template, with its brackets, and the template's node.
 #[cycle(body_expression_factor_filling_more_overridden_part_primary_template)]
-fn filling<'a>(
-    m: &mut [u8],
-    t: &'a [u8],
+fn filling(
+    source: &Source,
+    bound: &[Place],
     at: usize,
     allow: usize,
-    firsts: &'a [u16],
-    lasts: &'a [u16],
-    bound: u8,
-    f: &'a [u8],
-    starts: &'a [u16],
-    ends: &'a [u16],
-    tags: &'a [u8],
-    counts: NameCounts,
-    p: Drawn,
-) -> Passed
-    requires sound { Sound f.now starts.now ends.now tags.now counts × (at ≤ length t.now) × (772 ≤ length m.old) }
-    requires bound { Bound t.now firsts.now lasts.now bound allow counts.tables }
-    ensures { FillingAt (lookup_in f.now starts.now ends.now tags.now counts)
-        (names_at t.now firsts.now lasts.now 0 bound) t.now at allow
-        (nodes_in m.old p) (nodes_in m.new result.drawn) result.answer }
+    nodes: &mut Nodes,
+) -> Result<usize, usize>
+    requires place { at ≤ length source.now.text.now }
+    requires bound { Bound source.now.text.now bound.now allow }
+    ensures { FillingAt (lookup_of source.now.names.now) (names_at source.now.text.now bound.now) source.now.text.now at allow nodes.old nodes.new result }
 {
-    if peek(t, at) != b'(' {
-        return Passed {
-            answer: Parsed::Bad(at),
-            drawn: p,
-        };
-    }
-    let v = part(
-        m,
-        t,
-        at + 1,
-        allow,
-        b')',
-        firsts,
-        lasts,
-        bound,
-        f,
-        starts,
-        ends,
-        tags,
-        counts,
-        p,
-    );
-    let k = v.answer;
-    let q = v.drawn;
-    match k {
-        Parsed::Bad(e) => Passed {
-            answer: Parsed::Bad(e),
-            drawn: p,
-        },
-        Parsed::Good(n) => {
-            let cell = Cell {
-                kind: 8,
-                sort: 0,
-                op: 0,
-                number: 0,
-            };
-            let q2 = put(m, q, cell);
-            Passed {
-                answer: Parsed::Good(n + 1),
-                drawn: q2,
-            }
-        }
-    }
+    let start = past(source.text, at, b'(')?;
+    let end = part(source, bound, start, allow, b')', nodes)?;
+    nodes.put(Node::Template);
+    Ok(end)
 }
 
-// An expression in brackets, up to the byte that ends it.
+// An expression in brackets, and the byte that ends it.
 #[cycle(body_expression_factor_filling_more_overridden_part_primary_template)]
-fn part<'a>(
-    m: &mut [u8],
-    t: &'a [u8],
+fn part(
+    source: &Source,
+    bound: &[Place],
     at: usize,
     allow: usize,
-    end: u8,
-    firsts: &'a [u16],
-    lasts: &'a [u16],
-    bound: u8,
-    f: &'a [u8],
-    starts: &'a [u16],
-    ends: &'a [u16],
-    tags: &'a [u8],
-    counts: NameCounts,
-    p: Drawn,
-) -> Passed
-    requires sound { Sound f.now starts.now ends.now tags.now counts × (at ≤ length t.now) × (772 ≤ length m.old) }
-    requires bound { Bound t.now firsts.now lasts.now bound allow counts.tables }
-    ensures { PartAt (lookup_in f.now starts.now ends.now tags.now counts)
-        (names_at t.now firsts.now lasts.now 0 bound) t.now at allow end
-        (nodes_in m.old p) (nodes_in m.new result.drawn) result.answer }
+    ending: u8,
+    nodes: &mut Nodes,
+) -> Result<usize, usize>
+    requires place { at ≤ length source.now.text.now }
+    requires bound { Bound source.now.text.now bound.now allow }
+    ensures { PartAt (lookup_of source.now.names.now) (names_at source.now.text.now bound.now) source.now.text.now at allow ending nodes.old nodes.new result }
 {
-    let v = expression(
-        m, t, at, allow, firsts, lasts, bound, f, starts, ends, tags, counts, p,
-    );
-    let k = v.answer;
-    let q = v.drawn;
-    match k {
-        Parsed::Bad(e) => Passed {
-            answer: Parsed::Bad(e),
-            drawn: p,
-        },
-        Parsed::Good(n) => {
-            if peek(t, n) != end {
-                return Passed {
-                    answer: Parsed::Bad(n),
-                    drawn: p,
-                };
-            }
-            Passed {
-                answer: Parsed::Good(n),
-                drawn: q,
-            }
-        }
-    }
+    let end = expression(source, bound, at, allow, nodes)?;
+    past(source.text, end, ending)
 }
 
 // A primary with its scopes and closures.
 #[cycle(body_expression_factor_filling_more_overridden_part_primary_template)]
-fn factor<'a>(
-    m: &mut [u8],
-    t: &'a [u8],
+fn factor(
+    source: &Source,
+    bound: &[Place],
     at: usize,
     allow: usize,
-    firsts: &'a [u16],
-    lasts: &'a [u16],
-    bound: u8,
-    f: &'a [u8],
-    starts: &'a [u16],
-    ends: &'a [u16],
-    tags: &'a [u8],
-    counts: NameCounts,
-    p: Drawn,
-) -> Passed
-    requires sound { Sound f.now starts.now ends.now tags.now counts × (at ≤ length t.now) × (772 ≤ length m.old) }
-    requires bound { Bound t.now firsts.now lasts.now bound allow counts.tables }
-    ensures { FactorAt (lookup_in f.now starts.now ends.now tags.now counts)
-        (names_at t.now firsts.now lasts.now 0 bound) t.now at allow
-        (nodes_in m.old p) (nodes_in m.new result.drawn) result.answer }
+    nodes: &mut Nodes,
+) -> Result<usize, usize>
+    requires place { at ≤ length source.now.text.now }
+    requires bound { Bound source.now.text.now bound.now allow }
+    ensures { FactorAt (lookup_of source.now.names.now) (names_at source.now.text.now bound.now) source.now.text.now at allow nodes.old nodes.new result }
 {
-    let v = primary(
-        m, t, at, allow, firsts, lasts, bound, f, starts, ends, tags, counts, p,
-    );
-    let k = v.answer;
-    let q = v.drawn;
-    match k {
-        Parsed::Bad(e) => Passed {
-            answer: Parsed::Bad(e),
-            drawn: p,
-        },
-        Parsed::Good(n) => suffixes(m, t, n, f, starts, ends, tags, counts, q),
-    }
+    let end = primary(source, bound, at, allow, nodes)?;
+    suffixes(source, end, nodes)
 }
 
 // The signs and factors that follow a factor.
 #[cycle(body_expression_factor_filling_more_overridden_part_primary_template)]
-fn more<'a>(
-    m: &mut [u8],
-    t: &'a [u8],
+fn more(
+    source: &Source,
+    bound: &[Place],
     at: usize,
     allow: usize,
-    firsts: &'a [u16],
-    lasts: &'a [u16],
-    bound: u8,
-    f: &'a [u8],
-    starts: &'a [u16],
-    ends: &'a [u16],
-    tags: &'a [u8],
-    counts: NameCounts,
-    p: Drawn,
-) -> Passed
-    requires sound { Sound f.now starts.now ends.now tags.now counts × (at ≤ length t.now) × (772 ≤ length m.old) }
-    requires bound { Bound t.now firsts.now lasts.now bound allow counts.tables }
-    ensures { MoreAt (lookup_in f.now starts.now ends.now tags.now counts)
-        (names_at t.now firsts.now lasts.now 0 bound) t.now at allow
-        (nodes_in m.old p) (nodes_in m.new result.drawn) result.answer }
+    nodes: &mut Nodes,
+) -> Result<usize, usize>
+    requires place { at ≤ length source.now.text.now }
+    requires bound { Bound source.now.text.now bound.now allow }
+    ensures { MoreAt (lookup_of source.now.names.now) (names_at source.now.text.now bound.now) source.now.text.now at allow nodes.old nodes.new result }
 {
-    let mut q = p;
     let mut i = at;
-    loop {
-        let kind = sign(peek(t, i));
-        if kind == 0 {
-            return Passed {
-                answer: Parsed::Good(i),
-                drawn: q,
-            };
-        }
-        let v = factor(
-            m,
-            t,
-            i + 1,
-            allow,
-            firsts,
-            lasts,
-            bound,
-            f,
-            starts,
-            ends,
-            tags,
-            counts,
-            q,
-        );
-        let k = v.answer;
-        let g = v.drawn;
-        match k {
-            Parsed::Bad(e) => {
-                return Passed {
-                    answer: Parsed::Bad(e),
-                    drawn: q,
-                };
-            }
-            Parsed::Good(e) => {
-                let cell = Cell {
-                    kind: kind,
-                    sort: 0,
-                    op: 0,
-                    number: 0,
-                };
-                q = put(m, g, cell);
-                i = e;
-            }
-        }
+    while let Some(joiner) = sign(peek(source.text, i)) {
+        i = factor(source, bound, i + 1, allow, nodes)?;
+        nodes.put(Node::Join(joiner));
     }
+    Ok(i)
 }
 
 #[cycle(body_expression_factor_filling_more_overridden_part_primary_template)]
-fn expression<'a>(
-    m: &mut [u8],
-    t: &'a [u8],
+fn expression(
+    source: &Source,
+    bound: &[Place],
     at: usize,
     allow: usize,
-    firsts: &'a [u16],
-    lasts: &'a [u16],
-    bound: u8,
-    f: &'a [u8],
-    starts: &'a [u16],
-    ends: &'a [u16],
-    tags: &'a [u8],
-    counts: NameCounts,
-    p: Drawn,
-) -> Passed
-    requires sound { Sound f.now starts.now ends.now tags.now counts × (at ≤ length t.now) × (772 ≤ length m.old) }
-    requires bound { Bound t.now firsts.now lasts.now bound allow counts.tables }
-    ensures { ExpressionAt (lookup_in f.now starts.now ends.now tags.now counts)
-        (names_at t.now firsts.now lasts.now 0 bound) t.now at allow
-        (nodes_in m.old p) (nodes_in m.new result.drawn) result.answer }
+    nodes: &mut Nodes,
+) -> Result<usize, usize>
+    requires place { at ≤ length source.now.text.now }
+    requires bound { Bound source.now.text.now bound.now allow }
+    ensures { ExpressionAt (lookup_of source.now.names.now) (names_at source.now.text.now bound.now) source.now.text.now at allow nodes.old nodes.new result }
 {
-    let v = factor(
-        m, t, at, allow, firsts, lasts, bound, f, starts, ends, tags, counts, p,
-    );
-    let k = v.answer;
-    let q = v.drawn;
-    match k {
-        Parsed::Bad(e) => Passed {
-            answer: Parsed::Bad(e),
-            drawn: p,
-        },
-        Parsed::Good(n) => more(
-            m, t, n, allow, firsts, lasts, bound, f, starts, ends, tags, counts, q,
-        ),
-    }
+    let end = factor(source, bound, at, allow, nodes)?;
+    more(source, bound, end, allow, nodes)
 }
 
-// Reads an expression where no name is bound.
-fn unbound<'a>(
-    m: &mut [u8],
-    t: &'a [u8],
-    at: usize,
-    allow: usize,
-    f: &'a [u8],
-    starts: &'a [u16],
-    ends: &'a [u16],
-    tags: &'a [u8],
-    counts: NameCounts,
-    p: Drawn,
-) -> Passed
-    requires { Sound f.now starts.now ends.now tags.now counts × (at ≤ length t.now) × (772 ≤ length m.old)
-        × (length t.now ≤ 32768) × (allow ≤ 32) × (counts.tables ≤ 16) }
-    ensures { ExpressionAt (lookup_in f.now starts.now ends.now tags.now counts) [] t.now at allow
-        (nodes_in m.old p) (nodes_in m.new result.drawn) result.answer }
+// Reads a whole text: the nodes of its tree, or the place where it goes wrong.
+pub fn read(text: &[u8], names: &Names) -> Result<Nodes, usize>
+    requires short { length text.now ≤ 32768 }
+    requires few_tables { names.now.counts.tables ≤ 16 }
+    ensures { Answer (lookup_of names.now) text.now result }
 {
-    let none = [0u16; 1];
-    expression(
-        m, t, at, allow, &none, &none, 0, f, starts, ends, tags, counts, p,
-    )
-}
-
-// Reads a whole text. A good answer is its length, and the nodes are those of its tree; a bad one is the place where it goes wrong.
-pub fn read<'a>(
-    t: &'a [u8],
-    f: &'a [u8],
-    starts: &'a [u16],
-    ends: &'a [u16],
-    tags: &'a [u8],
-    counts: NameCounts,
-) -> Made
-    requires { Sound f.now starts.now ends.now tags.now counts × (length t.now ≤ 32768) × (counts.tables ≤ 16) }
-    ensures { Answer (lookup_in f.now starts.now ends.now tags.now counts) t.now result }
-{
-    let mut m = [0u8; 772];
-    let none = Drawn {
-        used: 0,
-        operators: 0,
-        missing: Place::Nowhere,
-    };
-    let v = from_start(&mut m, t, 32, f, starts, ends, tags, counts, none);
-    let k = v.answer;
-    let q = v.drawn;
-    let missing = q.missing;
-    let nodes = Nodes {
-        cells: m,
-        used: q.used,
-        operators: q.operators,
-        missing: missing,
-    };
-    match k {
-        Parsed::Bad(e) => Made {
-            answer: Parsed::Bad(e),
-            nodes: nodes,
-        },
-        Parsed::Good(n) => {
-            if !ends_at(t, n) {
-                return Made {
-                    answer: Parsed::Bad(n),
-                    nodes: nodes,
-                };
-            }
-            Made {
-                answer: Parsed::Good(n),
-                nodes: nodes,
-            }
-        }
+    let source = Source { text, names };
+    let mut nodes = Nodes::new();
+    let end = Reader::at_place(&source, 0).expression_here(32, &mut nodes)?;
+    if !Reader::at_place(&source, end).is_over() {
+        return Err(end);
     }
+    Ok(nodes)
 }

@@ -1,3 +1,3 @@
--- The laws behind the proofs: the verdict on an E line, what is declared after it, and the cells of its nodes.
+-- The laws behind the proofs: the verdict on an E line, what is declared after it, and the nodes of its expression.
 pub mod Goals
 pub mod GoalCells

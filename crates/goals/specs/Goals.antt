@@ -1,63 +1,65 @@
 -- What the code's answer on an E line means, in terms of the rows and of what is declared after it.
-use Rattle.std.specs.Prelude.{◌≡◌, List, ℕ, ◌≤◌, ◌<◌, length}
+use Rattle.std.specs.Prelude.{◌≡◌, List, ℕ, ◌≤◌, ◌<◌, length, get_or, Result, Ok, Err}
 use Rattle.algebra.specs.Algebra.{Uses, operators, held, bindings}
 use Rattle.algebra.specs.Nodes.{Encodes}
-use Rattle.algebra.specs.Stored.{stored_sort}
+use Rattle.algebra.specs.Meant.{sort_meant}
+use Rattle.algebra.specs.declared.Scope.TheVariants.{Compared, Marked}
 use Rattle.grammar.specs.Expression.{Exp}
 use Rattle.grammar.specs.Machine.{read, reading}
 use Rattle.grammar.specs.Names.{table}
 use Rattle.grammar.specs.Tree.{tree_of}
 use Rattle.names.specs.Entries.{member_count}
-use Rattle.nodes.specs.Cells.{cell_in, label}
-use Rattle.words.specs.Cells.{NumberOf, CellWithin}
-use Rattle.nodes.specs.declared.Cell.{Cell}
+use Rattle.nodes.specs.Cells.{label}
+use Rattle.words.specs.Cells.{NumberOf, NodeWithin}
+use Rattle.nodes.specs.declared.Node.{Node}
+use Rattle.nodes.specs.declared.Node.TheVariants.{Table, Join, Override, Scope, Closure, Template}
 use Rattle.names.specs.declared.NameCounts.{NameCounts}
 use Rattle.words.specs.declared.Nodes.{Nodes}
 use Rattle.reader.specs.Line.{expression_line}
 use Rattle.reader.specs.Declarations.{Declared}
 use Rattle.reader.specs.Expression.{lookup}
-use Rattle.reader.specs.Rows.{first, rows}
-use Rattle.rows.specs.First.{verdict_at}
+use Rattle.reader.specs.Rows.{good, refuse, first, rows}
+use Rattle.rows.specs.First.{number_of}
+use Rattle.state.specs.declared.Group.TheVariants.{Expression}
 use Rattle.state.specs.declared.State.{State}
+use Rattle.goals.specs.declared.Fault.{Fault}
 use Rattle.goals.specs.declared.Goal.{Goal}
 
 -- the nodes are those of the tree of the expression that was read
 pub record GoalGood (d : Declared) (limit : ℕ) (t : List ℕ) (p : Nodes) : Type 0 where
   pub expression : Exp
   pub reads : reading t ≡ read expression
-  pub tree : Encodes (label p.cells) (tree_of (lookup d) expression) 0 p.used
-  pub long : length p.cells ≡ 772
+  pub tree : Encodes (label p.nodes) (tree_of (lookup d) expression) 0 p.used
+  pub long : length p.nodes ≡ 193
   pub few_used : p.used ≤ 193
-  pub within : (j : ℕ) → j < p.used → CellWithin (lookup d) (cell_in p.cells j)
+  pub within : (j : ℕ) → j < p.used → NodeWithin (lookup d) (get_or p.nodes j Template)
   pub limited : limit ≤ 4096
   pub few_held : held (tree_of (lookup d) expression) ≤ 14
   pub few_operators : operators (tree_of (lookup d) expression) ≤ 64
   pub few_bindings : bindings (tree_of (lookup d) expression) ≤ 4
   pub tables : (i : ℕ) → Uses (tree_of (lookup d) expression) i → NumberOf (lookup d) table i
 
--- a cell whose numbers are in their ranges, for so many names
-pub record CellFits (c : NameCounts) (x : Cell) : Type 0 where
-  pub member : x.kind ≡ 5 → (1 ≤ x.op) × (x.op ≤ 5) × (x.sort ≤ 2) × (x.number < member_count c (stored_sort x.sort))
-  pub predicate : x.kind ≡ 6 → (x.sort ≤ 2) × (x.number < 16)
+-- the number of a scope's node is in its range, for so many names
+unfoldable pub NodeFits : NameCounts → Node → Type 0
+NodeFits c (Table i) = Unit {0}
+NodeFits c (Join j) = Unit {0}
+NodeFits c Override = Unit {0}
+NodeFits c (Scope (Compared s op m)) = m < member_count c (sort_meant s)
+NodeFits c (Scope (Marked s p)) = p < 16
+NodeFits c (Closure i) = Unit {0}
+NodeFits c Template = Unit {0}
 
--- refused with a number and a place, or good with the number 0
-pub record GoalJudged (d : Declared) (limit : ℕ) (t : List ℕ) (j : Goal) : Type 0 where
-  pub verdict : first (rows d (expression_line limit t)) ≡ verdict_at j.number j.place
-  pub limit_is : j.limit ≡ limit
-  pub good : j.number ≡ 0 → GoalGood d limit t j.nodes
+-- a goal that no row refuses, with the limit that was written
+pub record GoalTaken (d : Declared) (limit : ℕ) (t : List ℕ) (g : Goal) : Type 0 where
+  pub verdict : first (rows d (expression_line limit t)) ≡ good
+  pub limit_is : g.limit ≡ limit
+  pub good_goal : GoalGood d limit t g.nodes
+
+-- a goal, or the first row that is met
+unfoldable pub GoalJudged : Declared → ℕ → List ℕ → Result Goal Fault → Type 0
+GoalJudged d limit t (Ok g) = GoalTaken d limit t g
+GoalJudged d limit t (Err e) = first (rows d (expression_line limit t)) ≡ refuse (number_of e.refusal) e.place
 
 -- the state after an E line
 unfoldable pub ended_of : State → State
-ended_of st =
-    record {
-      group = 7;
-      counts = st.counts;
-      starts = st.starts;
-      ends = st.ends;
-      tags = st.tags;
-      marks = st.marks;
-      rules = st.rules;
-      many = st.many;
-      sorts = st.sorts;
-      grants = st.grants;
-    }
+ended_of st = record st { group = Expression }

@@ -1,87 +1,70 @@
 -- The ways through the code that puts a node. Assumes nothing.
-use mathlib.Core.Path.{◌≡◌, refl, sym, ap, ap₂, ◌∙◌}
-use mathlib.Core.List.{List}
-use mathlib.Core.Option.{Option, none, some}
-use Prim.Native.Nat.{ℕ, ◌+◌, ◌≤◌, ◌<◌}
+use Rattle.std.proofs.Common.{◌≡◌, refl, sym, ap, ◌∙◌, true, ◌&&◌, List, ℕ, ◌+◌, ◌≤◌, ◌<◌, leb, is_some, set}
+use Rattle.std.specs.Prelude as rust
+use Rattle.std.proofs.Math.Option.{Option, none, some}
+use Rattle.std.proofs.lemmas.Bool.{false≢true}
 use borrow.Author.Tests.{lt-ltb, le-ltb, leb-true}
-use lib.Dec.{leb}
-use mathlib.Core.Bool.{true, ◌&&◌, false≢true}
 use Rattle.algebra.proofs.Bool.{and_left, and_right}
 use Rattle.grammar.specs.Names.{Kind}
 use Rattle.grammar.specs.Lookup.{place}
-use Rattle.words.specs.Cells.{counted_to, operators_after_lem, nodes_in, stored, first_place_lem, place_after, is_place, lacking, noted, with_number, emit_name}
-use Rattle.nodes.specs.Cells.{with_cell}
-use Rattle.nodes.specs.declared.Cell.{Cell}
-use Rattle.words.specs.declared.Drawn.{Drawn}
-use Rattle.words.specs.declared.Place.{Place}
-use Rattle.words.specs.declared.Place.TheVariants.{At, Nowhere}
+use Rattle.words.specs.Cells.{counted_to, operators_after, stored, first_place, noted, asked_as, node_with, emit_name}
+use Rattle.nodes.specs.declared.Node.{Node}
+use Rattle.words.specs.declared.Suffix.{Suffix}
+use Rattle.words.specs.declared.Suffix.TheVariants.{Comparing, Marking, Closing}
 use Rattle.words.specs.declared.Nodes.{Nodes}
 
-module _ (m : Place) (at : ℕ) where
-  pub place_old : {i : ℕ} → m ≡ At i → At i ≡ first_place_lem m at
-  unfolding first_place_lem
-  place_old q = rw q
-
-  pub place_new : m ≡ Nowhere → At at ≡ first_place_lem m at
-  unfolding first_place_lem
-  place_new q = rw q
-
-module _ (m : List ℕ) (q : Drawn) (c : Cell) {o : ℕ} (z : o ≡ operators_after_lem q.operators c.kind) where
-  pub put_stored : (m' : List ℕ) → q.used < 193 → m' ≡ with_cell m q.used c → ◌≡◌ {A = Nodes}
-      (nodes_in m' record { used = q.used + 1; operators = o; missing = q.missing }) (stored (nodes_in m q) c)
+module _ (p : Nodes) (n : Node) {o : ℕ} (z : o ≡ operators_after p.operators n) where
+  pub put_stored : p.used < 193 → ◌≡◌ {A = Nodes} (record { nodes = set p.nodes p.used n; used = p.used + 1; operators = o; missing = p.missing }) (stored p n)
   unfolding stored counted_to
-  put_stored m' l e = rw (e, z, lt-ltb q.used 193 l)
+  put_stored l = rw (z, lt-ltb p.used 193 l)
 
-  pub full_stored : 193 ≤ q.used → ◌≡◌ {A = Nodes} (nodes_in m record { used = q.used; operators = o; missing = q.missing }) (stored (nodes_in m q) c)
+  pub full_stored : 193 ≤ p.used → ◌≡◌ {A = Nodes} (record { nodes = p.nodes; used = p.used; operators = o; missing = p.missing }) (stored p n)
   unfolding stored counted_to
-  full_stored l = rw (z, le-ltb q.used 193 l)
+  full_stored l = rw (z, le-ltb p.used 193 l)
 
--- where there is no room, the cell says no more than its kind
-same_full : (p : Nodes) (c d : Cell) → c.kind ≡ d.kind → 193 ≤ p.used → stored p c ≡ stored p d
+-- where there is no room, only the operators are counted
+same_full : (p : Nodes) (n m : Node) → ((i : ℕ) → operators_after i n ≡ operators_after i m) → 193 ≤ p.used → stored p n ≡ stored p m
 unfolding stored counted_to
-same_full p c d e l = rw (le-ltb p.used 193 l, e)
-
--- after a name that stands at i, in place
-noted_is : (o : Option ℕ) (i : ℕ) (p : Nodes) → ◌≡◌ {A = Nodes}
-    record { cells = p.cells; used = p.used; operators = p.operators; missing = place_after p.missing o i } (noted o i p)
-unfolding noted lacking place_after
-noted_is none i p = refl
-noted_is (some m) i p = refl
+same_full p n m e l = rw (le-ltb p.used 193 l, e p.operators)
 
 -- where a name is missing already, whatever number the next one has
-settled_is : (o : Option ℕ) (i : ℕ) (p : Nodes) → is_place p.missing ≡ true → noted o i p ≡ p
-unfolding noted lacking first_place_lem
+settled_is : (o : Option ℕ) (i : ℕ) (p : Nodes) → is_some p.missing ≡ true → noted o i p ≡ p
+unfolding noted first_place
 settled_is (some m) i p e = refl
 settled_is none i p e = go p.missing refl e
   where
-    go : (m : Place) → p.missing ≡ m → is_place m ≡ true → lacking p i ≡ p
-    go (At j) q h = rw q
-    go Nowhere q h = absurd (false≢true h)
+    go : (m : rust.Option ℕ) → p.missing ≡ m → is_some m ≡ true
+        → ◌≡◌ {A = Nodes} record { nodes = p.nodes; used = p.used; operators = p.operators; missing = first_place p.missing i } p
+    go (rust.Some j) q h = rw q
+    go rust.None q h = absurd (false≢true h)
 
-module _ (o : Option ℕ) (i : ℕ) (p : Nodes) where
-  -- once all is settled, a name changes nothing
-  pub settled_stored : (c d : Cell) → c.kind ≡ d.kind → (leb 193 p.used && is_place p.missing) ≡ true → stored p c ≡ stored (noted o i p) d
-  settled_stored c d e s =
-      let full = leb-true 193 p.used (and_left (leb 193 p.used) (is_place p.missing) s) in
-      same_full p c d e full ∙ ap (λ (q : Nodes). stored q d) (sym (settled_is o i p (and_right (leb 193 p.used) (is_place p.missing) s)))
+-- once all is settled, a name changes nothing
+pub settled_stored : (o : Option ℕ) (i : ℕ) (p : Nodes) (n m : Node) → ((j : ℕ) → operators_after j n ≡ operators_after j m)
+    → (leb 193 p.used && is_some p.missing) ≡ true → stored p n ≡ stored (noted o i p) m
+settled_stored o i p n m e s =
+    let full = leb-true 193 p.used (and_left (leb 193 p.used) (is_some p.missing) s) in
+    same_full p n m e full ∙ ap (λ (q : Nodes). stored q m) (sym (settled_is o i p (and_right (leb 193 p.used) (is_some p.missing) s)))
 
-  -- l is the first place at which a name is missing, after one with the number v
-  pub noted_stored : {v : Option ℕ} {c d : Cell} {l : Place} → v ≡ o → c ≡ d → l ≡ place_after p.missing v i
-      → stored (record { cells = p.cells; used = p.used; operators = p.operators; missing = l }) c ≡ stored (noted o i p) d
-  noted_stored found_is cell-is place_is =
-      ap₂ stored
-      (ap (λ (v : Place). record { cells = p.cells; used = p.used; operators = p.operators; missing = v })
-      (place_is ∙ ap (λ (u : Option ℕ). place_after p.missing u i) found_is) ∙ noted_is o i p) cell-is
+-- a lookup, by what the kind and the name are
+pub looked : (number : Kind → List ℕ → Option ℕ) {v : Option ℕ} {k k' : Kind} {n n' : List ℕ} → v ≡ number k n → k ≡ k' → n ≡ n' → v ≡ number k' n'
+looked number {v} {k} {k'} {n} e q r = e ∙ ap (λ (i : Kind). number i n) q ∙ ap (number k') r
 
-module _ (number : Kind → List ℕ → Option ℕ) (k : Kind) (n : List ℕ) (i : ℕ) (c : Cell) (p : Nodes) where
-  pub settled_named : (leb 193 p.used && is_place p.missing) ≡ true → stored p c ≡ emit_name number k n i c p
+suffix_operators : (x : Suffix) (n m i : ℕ) → operators_after i (node_with x n) ≡ operators_after i (node_with x m)
+unfolding operators_after
+suffix_operators (Comparing s c) n m i = refl
+suffix_operators (Marking s) n m i = refl
+suffix_operators Closing n m i = refl
+
+module _ (number : Kind → List ℕ → Option ℕ) (x : Suffix) (n : List ℕ) (i : ℕ) (p : Nodes) where
+  pub settled_named : (leb 193 p.used && is_some p.missing) ≡ true → stored p (node_with x 0) ≡ emit_name number x n i p
   unfolding emit_name
-  settled_named s = settled_stored (number k n) i p c (with_number c (place (number k n))) refl s
+  settled_named s = settled_stored (number (asked_as x) n) i p _ _ (suffix_operators x 0 _) s
 
-  -- d has the number of the name, and l is the first place at which one is missing
-  pub named_stored : {v : Option ℕ} {m : ℕ} {d : Cell} {l : Place} → v ≡ number k n → m ≡ place v → d ≡ with_number c m → l ≡ place_after p.missing v i
-      → stored (record { cells = p.cells; used = p.used; operators = p.operators; missing = l }) d
-      ≡ emit_name number k n i c p
+  -- v is what the name was found as, q is p with the name noted, and m is the node's number
+  pub named_stored : {v : Option ℕ} {m : ℕ} {q : Nodes} → v ≡ number (asked_as x) n → q ≡ noted v i p → m ≡ place v
+      → stored q (node_with x m) ≡ emit_name number x n i p
   unfolding emit_name
-  named_stored found_is number_is cell-is place_is =
-      noted_stored (number k n) i p found_is (cell-is ∙ ap (with_number c) (number_is ∙ ap place found_is)) place_is
+  named_stored {v} {m} {q} f g h =
+      let e : m ≡ place (number (asked_as x) n) = h ∙ ap place f in
+      let d : q ≡ noted (number (asked_as x) n) i p = g ∙ ap (λ (u : Option ℕ). noted u i p) f in
+      rw (d, e)

@@ -1,9 +1,8 @@
 -- The measures of the readers of an expression's parts, which call each other: the brackets that may be opened fall,
 -- and within one bracket the calls are in order. And what the loop of `more` keeps.
-use Rattle.std.proofs.Common.{◌≡◌, ◌+◌, ◌*◌, ◌-◌, length}
+use Rattle.std.proofs.Common.{◌+◌, ◌*◌, ◌-◌, length}
 use Rattle.name_index.specs.Parts.{names_at}
-use Rattle.names.specs.Entries.{lookup_in}
-use Rattle.words.specs.Cells.{nodes_in}
+use Rattle.names.specs.Looks.{lookup_of}
 use Rattle.words.specs.Contract.{ReadsMore}
 use Rattle.expressions.proofs.+body_expression_factor_filling_more_overridden_part_primary_template.Given as goal
 
@@ -34,11 +33,9 @@ decreases-primary l = 8 * l.allow
 abbrev pub decreases-template : goal.decreases-template
 decreases-template l = 8 * l.allow + 7
 
-abbrev pub invariant-more-loop-counts : goal.invariant-more-loop-counts
-invariant-more-loop-counts l =
-    (length l.m ≡ length l.initial.m)
-    × ReadsMore (lookup_in l.f l.starts l.ends l.tags l.counts) (names_at l.t l.firsts l.lasts 0 l.bound) l.t l.initial.i l.allow l.i
-    (nodes_in l.initial.m l.initial.q) (nodes_in l.m l.q)
+abbrev pub invariant-more-loop-joiner : goal.invariant-more-loop-joiner
+invariant-more-loop-joiner l =
+    ReadsMore (lookup_of l.source.names.now) (names_at l.source.text.now l.bound) l.source.text.now l.initial.i l.allow l.i l.initial.nodes l.nodes
 
-abbrev pub decreases-more-loop-counts : goal.decreases-more-loop-counts
-decreases-more-loop-counts l = length l.t - l.i
+abbrev pub decreases-more-loop-joiner : goal.decreases-more-loop-joiner
+decreases-more-loop-joiner l = length l.source.text.now - l.i

@@ -1,49 +1,26 @@
--- The cells in the slice, with what is known of them, are the nodes of the suffixes passed.
-use mathlib.Core.Path.{refl, sym, ◌∙◌}
-use Prim.Native.Nat.{◌-◌}
-use native.Mathlib.Omega.{arith}
+use Rattle.std.proofs.Common.{arith}
+use Rattle.std.proofs.lemmas.Result.{err_from_is_err_and}
 use Rattle.words.specs.Contract.{suffix_byte}
-use Rattle.words.proofs.Puts.{settled_named}
 use Rattle.words.proofs.Words.{seen}
 use Rattle.expressions.proofs.SuffixWays.{xs_first, xs_end, xs_bad, xs_in, xs_past, xs_next}
 use Rattle.expressions.proofs.suffixes.Goals as goal
 
-pub loop-counts-init : goal.loop-counts-init
-loop-counts-init c = (refl, xs_first _ _ _ _ c.requires.1)
+pub loop-i-init : goal.loop-i-init
+loop-i-init c = xs_first _ _ _ _ c.requires
 
-pub suffix-requires : goal.suffix-requires
-suffix-requires c = seen suffix_byte c.peek.ensures c.is_suffix.ensures c.loop-counts-test.true
+pub returns-in_err-x : goal.returns-in_err-x
+returns-in_err-x c =
+    let p = err_from_is_err_and c.from_residual.result c.from_residual.ensures.1 in
+    rw (p.1, p.2) (xs_bad _ _ _ _ _ _ c.loop-i.invariant _ _ c.in_err-x.ensures)
 
-pub returns-in-NoScope : goal.returns-in-NoScope
-returns-in-NoScope c = xs_bad _ _ _ _ _ _ c.loop-counts.invariant.1 _ c.in-NoScope.is c.suffix.ensures
+pub put_name-requires : goal.put_name-requires
+put_name-requires c = xs_in _ _ _ _ _ _ c.loop-i.invariant _ c.in_ok-x.ensures
 
-pub put-q-requires : goal.put-q-requires
-put-q-requires c = omega (arith, c.requires.2, c.loop-counts.invariant.0)
+pub loop-i-smaller : goal.loop-i-smaller
+loop-i-smaller c = omega (arith, xs_past _ _ _ _ _ _ c.loop-i.invariant _ c.in_ok-x.ensures)
 
-pub loop-counts-smaller-then-is_settled : goal.loop-counts-smaller-then-is_settled
-loop-counts-smaller-then-is_settled c = omega (arith, xs_past _ _ _ _ _ _ c.loop-counts.invariant.1 c.in-Scoped.is c.suffix.ensures)
-
-pub loop-counts-preserved-then-is_settled : goal.loop-counts-preserved-then-is_settled
-loop-counts-preserved-then-is_settled c = (
-  c.put-q.auto.m ∙ c.loop-counts.invariant.0,
-  xs_next _ _ _ _ _ _ c.loop-counts.invariant.1 c.in-Scoped.is c.suffix.ensures _
-      (c.put-q.ensures ∙ settled_named _ _ _ _ _ _ (sym c.is_settled.ensures ∙ c.if-is_settled.true)),
-)
-
-pub put_name-q-requires : goal.put_name-q-requires
-put_name-q-requires c =
-    let g = xs_in _ _ _ _ _ _ c.loop-counts.invariant.1 c.in-Scoped.is c.suffix.ensures in
-    (c.requires.0, g.0, g.1, omega (arith, c.requires.2, c.loop-counts.invariant.0))
-
-pub loop-counts-smaller : goal.loop-counts-smaller
-loop-counts-smaller c = omega (arith, xs_past _ _ _ _ _ _ c.loop-counts.invariant.1 c.in-Scoped.is c.suffix.ensures)
-
-pub loop-counts-preserved : goal.loop-counts-preserved
-loop-counts-preserved c = (
-  c.put_name-q.auto.m ∙ c.loop-counts.invariant.0,
-  xs_next _ _ _ _ _ _ c.loop-counts.invariant.1 c.in-Scoped.is c.suffix.ensures _ c.put_name-q.ensures,
-)
+pub loop-i-preserved : goal.loop-i-preserved
+loop-i-preserved c = xs_next _ _ _ _ _ _ c.loop-i.invariant _ c.in_ok-x.ensures _ c.put_name.ensures
 
 pub returns : goal.returns
-returns c =
-    xs_end _ _ _ _ _ _ c.loop-counts.invariant.1 (seen suffix_byte c.peek.ensures c.is_suffix.ensures c.loop-counts-test.false)
+returns c = xs_end _ _ _ _ _ _ c.loop-i.invariant (seen suffix_byte c.peek.ensures c.is_suffix.ensures c.loop-i-test.false)

@@ -1,16 +1,10 @@
--- The cells in the slice, with what is known of them, are the nodes of the suffixes passed.
-use mathlib.Core.Path.{◌≡◌}
-use Prim.Native.Nat.{◌-◌}
-use lib.ListN.{length}
-use Rattle.names.specs.Entries.{lookup_in}
+use Rattle.std.proofs.Common.{◌-◌, length}
+use Rattle.names.specs.Looks.{lookup_of}
 use Rattle.words.specs.Contract.{ReadsSuffixes}
-use Rattle.words.specs.Cells.{nodes_in}
 use Rattle.expressions.proofs.suffixes.Given as goal
 
-abbrev pub invariant-loop-counts : goal.invariant-loop-counts
-invariant-loop-counts l =
-    (length l.m ≡ length l.initial.m) × ReadsSuffixes (lookup_in l.f l.starts l.ends l.tags l.counts) l.t l.initial.i l.i (nodes_in l.initial.m l.p)
-    (nodes_in l.m l.q)
+abbrev pub invariant-loop-i : goal.invariant-loop-i
+invariant-loop-i l = ReadsSuffixes (lookup_of l.source.names.now) l.source.text.now l.initial.i l.i l.initial.nodes l.nodes
 
-abbrev pub decreases-loop-counts : goal.decreases-loop-counts
-decreases-loop-counts l = length l.t - l.i
+abbrev pub decreases-loop-i : goal.decreases-loop-i
+decreases-loop-i l = length l.source.text.now - l.i

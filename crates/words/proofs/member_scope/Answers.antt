@@ -1,30 +1,27 @@
-use Rattle.words.proofs.Scopes.{byte_is, byte_isnt, m_none, m_in, m_bad, m_open, m_after, m_close}
-use native.Mathlib.Omega.{arith}
+use Rattle.std.proofs.lemmas.Result.{err_from_is_err_and}
+use Rattle.words.proofs.Scopes.{m_none, m_in, m_bad, m_name_in, m_open, m_close}
 use Rattle.words.proofs.member_scope.Goals as goal
 
+pub returns-in_err-comparison : goal.returns-in_err-comparison
+returns-in_err-comparison c =
+    let p = err_from_is_err_and c.from_residual.result c.from_residual.ensures.1 in
+    rw (p.1, p.2) (m_none _ _ _ _ c.in_err-comparison.ensures)
+
 pub read_name-requires : goal.read_name-requires
-read_name-requires c = m_in _ _ 0 c.in-Compares.is c.comparison.ensures
+read_name-requires c = m_in _ _ c.args.sort _ _ c.in_ok-comparison.ensures
 
-pub returns-then-peek-ne93 : goal.returns-then-peek-ne93
-returns-then-peek-ne93 c =
-    m_open _ _ _ c.in-Compares.is c.comparison.ensures c.in-Good.is c.read_name.ensures
-    (byte_isnt c.peek.ensures c.if-peek-ne93.true)
+pub returns-in_err-to : goal.returns-in_err-to
+returns-in_err-to c =
+    let p = err_from_is_err_and c.from_residual-in_err-to.result c.from_residual-in_err-to.ensures.1 in
+    rw (p.1, p.2) (m_bad _ _ _ _ _ c.in_ok-comparison.ensures _ c.in_err-to.ensures)
 
-pub overflow_add-result : goal.overflow_add-result
-overflow_add-result c =
-    omega (
-      arith,
-      m_after _ _ 0 c.in-Compares.is c.comparison.ensures c.in-Good.is c.read_name.ensures
-          (byte_is c.peek.ensures c.if-peek-ne93.false),
-    )
+pub past-requires : goal.past-requires
+past-requires c = m_name_in _ _ c.args.sort _ _ c.in_ok-comparison.ensures _ c.in_ok-to.ensures
 
-pub returns-in-NoComparison : goal.returns-in-NoComparison
-returns-in-NoComparison c = m_none _ _ _ c.in-NoComparison.is c.comparison.ensures
+pub returns-in_err-next : goal.returns-in_err-next
+returns-in_err-next c =
+    let p = err_from_is_err_and c.from_residual-in_err-next.result c.from_residual-in_err-next.ensures.1 in
+    rw (p.1, p.2) (m_open _ _ _ _ _ c.in_ok-comparison.ensures _ c.in_ok-to.ensures _ c.in_err-next.ensures)
 
-pub returns-in-Bad : goal.returns-in-Bad
-returns-in-Bad c = m_bad _ _ _ c.in-Compares.is c.comparison.ensures c.in-Bad.is c.read_name.ensures
-
-pub returns-else-peek-ne93 : goal.returns-else-peek-ne93
-returns-else-peek-ne93 c =
-    m_close _ _ _ c.in-Compares.is c.comparison.ensures c.in-Good.is c.read_name.ensures
-    (byte_is c.peek.ensures c.if-peek-ne93.false)
+pub returns : goal.returns
+returns c = m_close _ _ _ _ _ c.in_ok-comparison.ensures _ c.in_ok-to.ensures _ c.in_ok-next.ensures

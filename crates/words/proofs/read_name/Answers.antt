@@ -1,15 +1,24 @@
-use Rattle.words.proofs.Words.{n_none, n_bounds, n_good, n_letter}
-use borrow.Author.Rules.{rules}
+use Rattle.std.proofs.Common.{arith}
+use Rattle.std.proofs.lemmas.Result.{err_from_is_err_and}
+use Rattle.words.proofs.Words.{word_is, n_none, n_bounds, n_good, n_letter}
 use Rattle.words.proofs.read_name.Goals as goal
 
-pub word_letter-requires : goal.word_letter-requires
-word_letter-requires c = n_bounds _ _ c.in-Good.is c.word.ensures
+pub returns-in_err-end : goal.returns-in_err-end
+returns-in_err-end c =
+    let p = err_from_is_err_and c.from_residual.result c.from_residual.ensures.1 in
+    rw (p.1, p.2) (n_none _ _ _ c.requires c.in_err-end.ensures)
 
-pub returns-then-word_letter-ne3 : goal.returns-then-word_letter-ne3
-returns-then-word_letter-ne3 c = n_letter _ _ c.in-Good.is c.word.ensures c.word_letter.ensures c.if-word_letter-ne3.true
+pub slice_bounds-word_letter-count : goal.slice_bounds-word_letter-count
+slice_bounds-word_letter-count c = omega (arith, n_bounds _ _ _ c.in_ok-end.ensures)
 
-pub returns-in-Bad : goal.returns-in-Bad
-returns-in-Bad c = n_none _ _ (search rules) c.in-Bad.is c.word.ensures
+pub slice_bounds-word_letter-start : goal.slice_bounds-word_letter-start
+slice_bounds-word_letter-start c = omega (arith, n_bounds _ _ _ c.in_ok-end.ensures)
 
-pub returns-else-word_letter-ne3 : goal.returns-else-word_letter-ne3
-returns-else-word_letter-ne3 c = n_good _ _ c.in-Good.is c.word.ensures c.word_letter.ensures c.if-word_letter-ne3.false
+pub slice_bounds-word_letter-end : goal.slice_bounds-word_letter-end
+slice_bounds-word_letter-end c = omega (arith, n_bounds _ _ _ c.in_ok-end.ensures)
+
+pub returns-in-Some : goal.returns-in-Some
+returns-in-Some c = n_letter _ _ _ c.in_ok-end.ensures (word_is _ _ _ c.in_ok-end.ensures c.in-Some.ensures)
+
+pub returns-in-None : goal.returns-in-None
+returns-in-None c = n_good _ _ _ c.in_ok-end.ensures (word_is _ _ _ c.in_ok-end.ensures c.in-None.ensures)

@@ -1,9 +1,12 @@
-use Rattle.words.proofs.Words.{s_long, s_letter}
-use borrow.Author.Rules.{rules}
+use Rattle.std.proofs.Common.{sym, ◌∙◌, arith}
+use Rattle.words.proofs.Words.{letter_one, letter_long}
 use Rattle.words.proofs.word_letter.Goals as goal
 
-pub returns-then-end-at : goal.returns-then-end-at
-returns-then-end-at c = s_long _ _ _ (search rules) (search rules) c.if-end-at.true
+pub returns-in-len1 : goal.returns-in-len1
+returns-in-len1 c = c.letter_byte.ensures ∙ sym (letter_one c.args.word.now (omega arith))
 
-pub returns : goal.returns
-returns c = s_letter _ _ _ (search rules) (search rules) c.if-end-at.false c.peek.ensures c.letter_byte.ensures
+pub returns-in_default : goal.returns-in_default
+returns-in_default c = sym (letter_long c.args.word.now (λ e. omega arith))
+
+pub returns-in_default-2 : goal.returns-in_default-2
+returns-in_default-2 c = sym (letter_long c.args.word.now (λ e. omega arith))
