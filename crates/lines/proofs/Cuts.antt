@@ -164,3 +164,6 @@ module _ (l : List ℕ) (from to r : ℕ) (h : from ≤ to) (k : to ≤ length l
 
   pub no_comma : r ≡ to → after_comma (slice from to l) ≡ none
   no_comma g = after_all (slice from to l) (omega (arith, length-slice from to l k))
+
+-- where the search for a separator is
+pub ruleset ends = (end_hit, end_miss, end_none)

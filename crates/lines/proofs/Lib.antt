@@ -1,3 +1,4 @@
 pub mod Parts
 pub mod Cuts
+pub mod Words
 pub mod Forms

@@ -1,20 +1,21 @@
 -- Laws of the parts of a file, and of names, words and numbers in them, on lists alone.
-use Prim.Native.Nat.{ℕ, zero, suc, ◌+◌, ◌-◌, ◌*◌, ◌^◌, ◌<◌, ◌≤◌}
+use Prim.Native.Nat.{ℕ, zero, suc, ◌+◌, ◌-◌, ◌*◌, ◌<◌, ◌≤◌}
 use native.Mathlib.Numerals.{add-one}
-use native.Mathlib.Nat.{add_assoc, zero-add, suc-add, pow-le-pow_right}
-use lib.Pow.{pow-add}
+use native.Mathlib.Nat.{zero-add, suc-add}
 use native.Mathlib.Omega.{arith}
-use mathlib.Core.Path.{◌≡◌, refl, sym, ap, ap₂, ◌∙◌}
+use mathlib.Core.Path.{◌≡◌, refl, sym, ap, ◌∙◌}
 use mathlib.Core.List.{List, [], ◌∷◌}
 use mathlib.Core.Option.{Option, none, some}
-use mathlib.Core.Bool.{true, false, cond, ◌&&◌, and-false, and-true, or-true}
+use mathlib.Core.Bool.{Bool, true, false, cond, ◌&&◌, and-false, and-true, or-true}
 use lib.ListN.{length, get_or, take, drop}
-use lib.Seq.{slice, slice-cons, slice_empty, length-slice, get_or-drop, get_or-take, drop-cons, drop-length, drop-drop, take-nil, take-take, take_all}
+use lib.Seq.{slice, slice-cons, length-slice, get_or-drop, get_or-take, drop-cons, drop-drop, take-nil, take-take, take_all}
 use lib.Dec.{leb}
 use borrow.Author.Tests.{eq-eqb, ne_eqb, le-leb, lt-leb, leb-true}
+use Rattle.std.specs.List.{list_all}
+use Rattle.std.proofs.lemmas.List.{nil_from_length, drop_all}
+use Rattle.std.proofs.lemmas.List.Recursion.{same_from_clauses}
 use Rattle.algebra.proofs.Bool.{and_left, and_right}
 use Rattle.grammar.specs.Name.{is_letter_lem, is_name_byte_lem, are_name_bytes_lem, is_name_lem, no_letter_lem, letter_byte_lem, letter_word}
-use Rattle.grammar.specs.Lookup.{same}
 use Rattle.reader.specs.Text.{is_digit, digits, is_number, spells}
 use Rattle.reader.specs.Line.{letter_of}
 use Rattle.lines.specs.Parsed.{text_of, Within, Named}
@@ -27,14 +28,6 @@ part_cons l from to h k = rw add-one (slice-cons from to l 0 h k)
 
 pub part_get_or : (l : List ℕ) (from to k : ℕ) → from + k < to → get_or (slice from to l) k 0 ≡ get_or l (from + k) 0
 part_get_or l from to k h = get_or-drop from (take to l) k 0 ∙ get_or-take to l (from + k) 0 h
-
-pub part_one : (l : List ℕ) (from to : ℕ) → to - from ≡ 1 → to ≤ length l → slice from to l ≡ get_or l from 0 ∷ []
-part_one l from to h k =
-    let e : from + 1 ≡ to = omega arith in
-    part_cons l from to (omega arith) k ∙ rw e (ap (λ (t : List ℕ). get_or l from 0 ∷ t) (slice_empty to l))
-
-pub part_two : (l : List ℕ) (from to : ℕ) → to - from ≡ 2 → to ≤ length l → slice from to l ≡ get_or l from 0 ∷ get_or l (from + 1) 0 ∷ []
-part_two l from to h k = part_cons l from to (omega arith) k ∙ ap (λ (t : List ℕ). get_or l from 0 ∷ t) (part_one l (from + 1) to (omega arith) k)
 
 take_drop : (n f : ℕ) (l : List ℕ) → take n (drop f l) ≡ drop f (take (f + n) l)
 take_drop n zero l = rw zero-add
@@ -52,20 +45,16 @@ part_whole l = take_all (length l) l (omega arith)
 
 -- ---- the bytes of a name
 
-module _ (l : List ℕ) (from to : ℕ) (h : from < to) (k : to ≤ length l) where
-  pub name_run : is_name_byte_lem (get_or l from 0) ≡ true → are_name_bytes_lem (slice from to l) ≡ are_name_bytes_lem (slice (from + 1) to l)
-  unfolding are_name_bytes_lem
-  name_run e = rw (part_cons l from to h k, e)
-
-  pub name_stop : is_name_byte_lem (get_or l from 0) ≡ false → are_name_bytes_lem (slice from to l) ≡ false
-  unfolding are_name_bytes_lem
-  name_stop e = rw (part_cons l from to h k, e)
-
-pub name_end : (l : List ℕ) (to : ℕ) → are_name_bytes_lem (slice to to l) ≡ true
+pub all_name_bytes : (w : List ℕ) → are_name_bytes_lem w ≡ list_all is_name_byte_lem w
 unfolding are_name_bytes_lem
-name_end l to = rw (slice_empty to l)
+all_name_bytes w = same_from_clauses are_name_bytes_lem (list_all is_name_byte_lem) (λ b r. is_name_byte_lem b && r) refl (λ _ _. refl) (λ _ _. refl) w
 
 -- ---- names
+
+three_tests : (a b c : Bool) → (a && b && true && c) ≡ (a && (c && b))
+three_tests false b c = refl
+three_tests true false c = sym (and-false c)
+three_tests true true c = sym (and-true c)
 
 -- a word of one letter is that letter; another has none
 pub lone_letter : (w : List ℕ) → no_letter_lem (letter_word w) ≡ no_letter_lem (letter_byte_lem (letter_of w))
@@ -79,21 +68,21 @@ unfolding is_name_lem is_letter_lem
 empty_no_name = refl
 
 module _ (w : List ℕ) where
-  pub name_first : is_letter_lem (get_or w 0 0) ≡ false → is_name_lem w ≡ false
-  unfolding is_name_lem
-  name_first e = rw e
-
-  pub name_bytes : are_name_bytes_lem w ≡ false → is_name_lem w ≡ false
-  unfolding is_name_lem
-  name_bytes e = rw (e, and-false (is_letter_lem (get_or w 0 0)))
+  pub name_empty : length w ≡ 0 → is_name_lem w ≡ false
+  unfolding is_name_lem is_letter_lem
+  name_empty h = rw (nil_from_length w h)
 
   pub name_long : 24 < length w → is_name_lem w ≡ false
   unfolding is_name_lem
   name_long h = rw (lt-leb (length w) 24 h, and-false (is_letter_lem (get_or w 0 0) && are_name_bytes_lem w))
 
-  pub name_is : is_letter_lem (get_or w 0 0) ≡ true → are_name_bytes_lem w ≡ true → length w ≤ 24 → is_name_lem w ≡ no_letter_lem (letter_byte_lem (letter_of w))
+  -- the tests of a short text, in the order of the code
+  pub name_tests : length w ≤ 24
+      → is_name_lem w ≡ (is_letter_lem (get_or w 0 0) && (no_letter_lem (letter_byte_lem (letter_of w)) && are_name_bytes_lem w))
   unfolding is_name_lem
-  name_is e g h = rw (e, g, le-leb (length w) 24 h) (lone_letter w)
+  name_tests h =
+      rw (le-leb (length w) 24 h, lone_letter w)
+      (three_tests (is_letter_lem (get_or w 0 0)) (are_name_bytes_lem w) (no_letter_lem (letter_byte_lem (letter_of w))))
 
   pub name_short : is_name_lem w ≡ true → length w ≤ 24
   unfolding is_name_lem
@@ -108,49 +97,6 @@ named_part f p w e =
       fits = w.fits;
       short = omega (arith, w.order, name_short (text_of f p) e, length-slice p.from p.to f w.fits);
     }
-
--- ---- words
-
-pub same_nil : same [] [] ≡ true
-unfolding same
-same_nil = refl
-
-pub same_step : (b c : ℕ) (bs cs : List ℕ) → b ≡ c → same (b ∷ bs) (c ∷ cs) ≡ same bs cs
-unfolding same
-same_step b c bs cs e = rw (eq-eqb b c e)
-
-pub same_not : (b c : ℕ) (bs cs : List ℕ) → (b ≡ c → ⊥) → same (b ∷ bs) (c ∷ cs) ≡ false
-unfolding same
-same_not b c bs cs e = rw (ne_eqb b c e)
-
-module _ (f w : List ℕ) (from to i : ℕ) (h : to ≤ length f) (e : to - from ≡ length w) (k : i < length w) where
-  both : same (slice (from + i) to f) (drop i w) ≡ same (get_or f (from + i) 0 ∷ slice (from + (i + 1)) to f) (get_or w i 0 ∷ drop (i + 1) w)
-  both =
-      ap₂ same
-      (part_cons f (from + i) to (omega arith) h ∙ ap (λ (n : ℕ). get_or f (from + i) 0 ∷ slice n to f) (add_assoc from i 1))
-      (drop-cons w i 0 k ∙ ap (λ (n : ℕ). get_or w i 0 ∷ drop n w) (sym (add-one i)))
-
-  pub word_run : get_or f (from + i) 0 ≡ get_or w i 0 → same (slice (from + i) to f) (drop i w) ≡ same (slice (from + (i + 1)) to f) (drop (i + 1) w)
-  word_run q = both ∙ same_step _ _ _ _ q
-
-  pub word_stop : (get_or f (from + i) 0 ≡ get_or w i 0 → ⊥) → same (slice (from + i) to f) (drop i w) ≡ false
-  word_stop q = both ∙ same_not _ _ _ _ q
-
-pub word_end : (f w : List ℕ) (from to i : ℕ) → from + i ≡ to → i ≡ length w → same (slice (from + i) to f) (drop i w) ≡ true
-word_end f w from to i p q = rw (p, q, slice_empty to f, drop-length w) same_nil
-
-pub letter_one : (f : List ℕ) (from to : ℕ) → to - from ≡ 1 → to ≤ length f → letter_of (slice from to f) ≡ get_or f from 0
-unfolding letter_of
-letter_one f from to e h = rw (part_one f from to e h)
-
-letter_long : (l : List ℕ) → (length l ≡ 1 → ⊥) → letter_of l ≡ 0
-unfolding letter_of
-letter_long [] h = refl
-letter_long (b ∷ []) h = absurd (h refl)
-letter_long (b ∷ c ∷ bs) h = refl
-
-pub letter_none : (f : List ℕ) (from to : ℕ) → (to - from ≡ 1 → ⊥) → to ≤ length f → letter_of (slice from to f) ≡ 0
-letter_none f from to e h = letter_long (slice from to f) (rw (length-slice from to f h) e)
 
 -- ---- numbers
 
@@ -179,32 +125,25 @@ module _ (t : List ℕ) where
   unfolding numeral is_number valued
   number_on h k e = simp (le-leb 1 (length t) h, le-leb (length t) 4 k, ne_eqb (get_or t 0 0) 48 e, or-true, and-true)
 
-pub number_nought : numeral (48 ∷ []) ≡ some 0
+pub number_nought : (t : List ℕ) → length t ≡ 1 → get_or t 0 0 ≡ 48 → numeral t ≡ some 0
 unfolding numeral is_number digits is_digit spells
-number_nought = refl
+number_nought [] h e = absurd (omega arith)
+number_nought (b ∷ []) h e = rw e
+number_nought (b ∷ c ∷ r) h e = absurd (omega arith)
 
-module _ (l : List ℕ) (from to n : ℕ) (h : from < to) (k : to ≤ length l) where
-  pub digit_run : 48 ≤ get_or l from 0 → get_or l from 0 ≤ 57 → valued n (slice from to l) ≡ valued (n * 10 + (get_or l from 0 - 48)) (slice (from + 1) to l)
-  unfolding valued digits is_digit spells
-  digit_run p q = rw (part_cons l from to h k, le-leb 48 (get_or l from 0) p, le-leb (get_or l from 0) 57 q)
+pub digit_high : (b : ℕ) → is_digit b ≡ true → b ≤ 57
+unfolding is_digit
+digit_high b e = leb-true b 57 (and_right (leb 48 b) (leb b 57) e)
 
-  pub digit_low : get_or l from 0 < 48 → valued n (slice from to l) ≡ none
-  unfolding valued digits is_digit
-  digit_low p = rw (part_cons l from to h k, lt-leb 48 (get_or l from 0) p)
+module _ (l : List ℕ) (i n : ℕ) (h : i < length l) where
+  pub digit_run : is_digit (get_or l i 0) ≡ true → valued n (drop i l) ≡ valued (n * 10 + (get_or l i 0 - 48)) (drop (i + 1) l)
+  unfolding valued digits spells
+  digit_run e = rw (add-one, drop-cons l i 0 h, e)
 
-  pub digit_high : 57 < get_or l from 0 → valued n (slice from to l) ≡ none
-  unfolding valued digits is_digit
-  digit_high p = rw (part_cons l from to h k, lt-leb (get_or l from 0) 57 p, and-false (leb 48 (get_or l from 0)))
+  pub digit_stop : is_digit (get_or l i 0) ≡ false → valued n (drop i l) ≡ none
+  unfolding valued digits
+  digit_stop e = rw (drop-cons l i 0 h, e)
 
-pub digit_end : (l : List ℕ) (to n : ℕ) → valued n (slice to to l) ≡ some n
+pub digit_end : (l : List ℕ) (i n : ℕ) → length l ≤ i → valued n (drop i l) ≡ some n
 unfolding valued digits spells
-digit_end l to n = rw (slice_empty to l)
-
--- n is below 10 to the k: so it is of k digits, and with one digit more of k + 1
-pub few_digits : (n k : ℕ) → n + 1 ≤ 10 ^ k → k ≤ 3 → n ≤ 999
-few_digits n k h g = omega (arith, pow-le-pow_right {n = 10} (omega arith) {i = k} {j = 3} g)
-
-pub digit_more : (n b i from : ℕ) → from ≤ i → n + 1 ≤ 10 ^ (i - from) → b ≤ 9 → n * 10 + b + 1 ≤ 10 ^ (i + 1 - from)
-digit_more n b i from k h g =
-    let e : i + 1 - from ≡ i - from + 1 = omega arith in
-    rw (e, pow-add 10 (i - from) 1) (omega arith)
+digit_end l i n h = rw (drop_all i l h)

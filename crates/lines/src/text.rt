@@ -1,13 +1,12 @@
-// Parts of the file: where one ends, and whether it holds a name, a word or a number.
+// Parts of the file, and what a text is: a name, a word or a number.
 ghost use Rattle.std.specs.Prelude.{◌≡◌, cond, ◌+◌, ◌≤◌, length};
 ghost use Rattle.std.proofs.Math.Option.{none, some};
 ghost use Rattle.std.proofs.Math.Seq.{slice};
-ghost use Rattle.grammar.specs.Name.{is_letter_lem, is_name_byte_lem, are_name_bytes_lem, is_name_lem, no_letter_lem, letter_byte_lem};
-ghost use Rattle.grammar.specs.Lookup.{same};
+ghost use Rattle.grammar.specs.Name.{is_name_byte_lem, is_name_lem, letter_byte_lem, no_letter_lem};
 ghost use Rattle.reader.specs.Text.{before, is_number, spells};
 ghost use Rattle.reader.specs.Line.{letter_of};
 ghost use Rattle.reader.specs.File.{is_file_lem};
-ghost use Rattle.lines.specs.Parsed.{text_of, Within, number_of};
+ghost use Rattle.lines.specs.Parsed.{maybe_map, text_of, Within};
 
 // A part of the file: the bytes from one place up to, not including, another.
 #[derive(Clone, Copy)]
@@ -16,186 +15,92 @@ pub struct Part {
     pub to: usize,
 }
 
-// The number that a part spells, or that it spells none.
-#[derive(Clone, Copy)]
-pub enum Number {
-    Is(u16),
-    Wrong,
+impl Part {
+    // Its bytes.
+    pub fn text(self, f: &[u8]) -> &[u8]
+        requires { Within f.now self }
+        ensures { result.now ≡ text_of f.now self }
+    {
+        &f[self.from..self.to]
+    }
 }
 
 // Row 2: whether the file is one that can be read.
+#[tactic(auto, using(std::proofs::lemmas::Bool::Decides::nat_tests), unfolding(reader::specs::File::is_file_lem))]
 pub fn is_file(f: &[u8]) -> bool
     ensures { result ≡ is_file_lem f.now }
 {
-    let n = f.len();
-    if n == 0 {
-        return false;
-    }
-    if 32768 < n {
-        return false;
-    }
-    f[n - 1] == 10
+    f.len() <= 32768 && matches!(f.last(), Some(b'\n'))
 }
 
 // The place of the first `sep` from `from` on, or `to` where there is none before it.
+#[tactic(auto, using(crate::proofs::Cuts::ends))]
 pub fn piece_end(f: &[u8], from: usize, to: usize, sep: u8) -> usize
     requires { (from ≤ to) × (to ≤ length f.now) }
     ensures value { result ≡ from + length (before sep (slice from to f.now)) }
     ensures lower_bound { (from ≤ result) × (result ≤ to) }
 {
-    let mut i = from;
-    while i < to {
+    for i in from..to {
         if f[i] == sep {
             return i;
         }
-        i += 1;
     }
     to
 }
 
-fn is_letter(b: u8) -> bool
-    ensures { result ≡ is_letter_lem b }
-{
-    if b < 97 {
-        return false;
-    }
-    b <= 122
-}
-
+#[tactic(auto, unfolding(grammar::specs::Name::is_name_byte_lem, grammar::specs::Name::is_letter_lem))]
 fn is_name_byte(b: u8) -> bool
     ensures { result ≡ is_name_byte_lem b }
 {
-    if is_letter(b) {
-        return true;
-    }
-    if b == 95 {
-        return true;
-    }
-    if b < 48 {
-        return false;
-    }
-    b <= 57
+    b.is_ascii_lowercase() || b.is_ascii_digit() || b == b'_'
 }
 
-fn are_name_bytes(f: &[u8], from: usize, to: usize) -> bool
-    requires { (from ≤ to) × (to ≤ length f.now) }
-    ensures { result ≡ are_name_bytes_lem (slice from to f.now) }
+// The byte of a text of one byte, and 0 for another.
+#[tactic(auto, unfolding(reader::specs::Line::letter_of))]
+pub fn letter(text: &[u8]) -> u8
+    ensures { result ≡ letter_of text.now }
 {
-    let mut i = from;
-    while i < to {
-        if !is_name_byte(f[i]) {
-            return false;
-        }
-        i += 1;
+    match text {
+        [b] => *b,
+        _ => 0,
     }
-    true
 }
 
-// The byte of a part that has one, and 0 for another.
-pub fn letter(f: &[u8], p: Part) -> u8
-    requires { Within f.now p }
-    ensures { result ≡ letter_of (text_of f.now p) }
-{
-    let from = p.from;
-    let to = p.to;
-    if to - from != 1 {
-        return 0;
-    }
-    f[from]
-}
-
-// Whether the byte of a word of one letter is none of s, o, a and t; 0 stands for another word.
+// Whether a word of one letter may be a name: s, o, a and t may not. 0 stands for another word.
+#[tactic(auto, unfolding(grammar::specs::Name::letter_byte_lem))]
 fn no_letter(b: u8) -> bool
     ensures { result ≡ no_letter_lem (letter_byte_lem b) }
 {
-    if b == 115 {
-        return false;
-    }
-    if b == 111 {
-        return false;
-    }
-    if b == 97 {
-        return false;
-    }
-    if b == 116 {
-        return false;
-    }
-    true
+    !matches!(b, b's' | b'o' | b'a' | b't')
 }
 
-pub fn is_name(f: &[u8], p: Part) -> bool
-    requires { Within f.now p }
-    ensures { result ≡ is_name_lem (text_of f.now p) }
+// A name has 1 to 24 bytes, begins with a letter, and is none of s, o, a and t alone.
+pub fn is_name(text: &[u8]) -> bool
+    ensures { result ≡ is_name_lem text.now }
 {
-    let from = p.from;
-    let to = p.to;
-    if from == to {
+    if text.is_empty() || 24 < text.len() {
         return false;
     }
-    if 24 < to - from {
-        return false;
-    }
-    if !is_letter(f[from]) {
-        return false;
-    }
-    if !are_name_bytes(f, from, to) {
-        return false;
-    }
-    no_letter(letter(f, p))
+    text[0].is_ascii_lowercase() && no_letter(letter(text)) && text.iter().all(|&b| is_name_byte(b))
 }
 
-// Whether the part holds this word.
-pub fn is_text(f: &[u8], p: Part, w: &[u8]) -> bool
-    requires { Within f.now p }
-    ensures { result ≡ same (text_of f.now p) w.now }
+// The number that a text of 1 to 4 digits spells, without a leading zero.
+pub fn number(text: &[u8]) -> Option<u16>
+    ensures { maybe_map (λ n. n) result ≡ cond (is_number text.now) (some (spells 0 text.now)) none }
 {
-    let from = p.from;
-    let to = p.to;
-    if to - from != w.len() {
-        return false;
+    if text.is_empty() || 4 < text.len() {
+        return None;
     }
-    let mut i = 0;
-    while i < w.len() {
-        if f[from + i] != w[i] {
-            return false;
+    if text[0] == b'0' {
+        let is_alone = text.len() == 1;
+        return if is_alone { Some(0) } else { None };
+    }
+    let mut n = 0;
+    for &b in text {
+        if !b.is_ascii_digit() {
+            return None;
         }
-        i += 1;
+        n = n * 10 + u16::from(b - b'0');
     }
-    true
-}
-
-// A number of 1 to 4 digits, without a leading zero.
-pub fn number_at(f: &[u8], p: Part) -> Number
-    requires { Within f.now p }
-    ensures { number_of result ≡ cond (is_number (text_of f.now p)) (some (spells 0 (text_of f.now p))) none }
-{
-    let from = p.from;
-    let to = p.to;
-    if from == to {
-        return Number::Wrong;
-    }
-    if 4 < to - from {
-        return Number::Wrong;
-    }
-    if f[from] == 48 {
-        let is_alone = to - from == 1;
-        if is_alone {
-            return Number::Is(0);
-        }
-        return Number::Wrong;
-    }
-    let mut n: u16 = 0;
-    let mut i = from;
-    while i < to {
-        let b = f[i];
-        if b < 48 {
-            return Number::Wrong;
-        }
-        if 57 < b {
-            return Number::Wrong;
-        }
-        n = n * 10 + (b - 48) as u16;
-        i += 1;
-    }
-    Number::Is(n)
+    Some(n)
 }

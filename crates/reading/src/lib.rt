@@ -1,39 +1,41 @@
 // Reads a policy file: its lines one after the other, each refused by the first row that it meets or added to the state.
 #![tactic(auto)]
 
-ghost use Rattle.std.specs.Prelude.{◌≡◌, List, ℕ, ◌+◌, ◌*◌, ◌≤◌, ◌<◌, length, drop};
-ghost use Rattle.reader.specs.Declarations.{start};
-ghost use Rattle.state.specs.Standing.{Few, Sizes, Stands, more_predicates_lem, placed_of, marked_of, grant_written};
-ghost use Rattle.reading.specs.Reading.{ReadAs};
+ghost use Rattle.std.specs.Prelude.{◌≡◌, List, ℕ, ◌+◌, ◌*◌, ◌/◌, ◌≤◌, ◌<◌, length, drop, IfSome, IfOk, OnErr};
+ghost use Rattle.std.proofs.Math.Seq.{slice};
+ghost use Rattle.algebra.specs.Meant.{sort_meant};
+ghost use Rattle.names.specs.Entries.{sort_number};
+ghost use Rattle.reader.specs.Declarations.{Declared, start};
+ghost use Rattle.reader.specs.Line.{member_line, predicate_line, grant_line, expression_line, parse};
+ghost use Rattle.lines.specs.Parsed.{maybe_map, Within, Named, text_of};
+ghost use Rattle.state.specs.Standing.{Few, Stands, more_predicates, placed_of, marked_of, grant_written};
+ghost use Rattle.state.specs.declared.Group.TheVariants.{Predicates};
+ghost use Rattle.state.specs.Judged.{LineJudged, MemberJoins, PredicateJudged, GrantJudged};
+ghost use Rattle.goals.specs.Goals.{GoalJudged};
+ghost use Rattle.rule_lines.specs.RuleStanding.{StandsFor};
+ghost use Rattle.reading.specs.Reading.{ReadAs, GoalLine, fault_of, LineRead};
 
-use algebra::{StoredAtom, StoredRule};
-use goals::{Goal, judge_expression};
+use algebra::{Sort, Term, Triple};
+use goals::{Fault, Goal, judge_expression};
 use lines::line::{Parsed, parse_line};
 use lines::text::{Part, is_file, piece_end};
-use names::{NameCounts, insert_member};
-use rule_lines::{first_rule, is_body, judge_body, last_at, lines_in, new_rule, with_line};
-use state::rules::judge_rule;
-use state::{
-    Granted, Joining, Marking, State, judge_grant, judge_joining, judge_predicate, member_entry,
-    members, more_members, placed, table_line,
-};
-use words::{Nodes, Place};
+use name_index::{Entry, Place};
+use names::{NameCounts, PREDICATES, sort_tag};
+use rows::{Refusal, Refused};
+use rule_lines::{add_body, add_rule, new_rule};
+use state::{Group, Marking, State, judge_predicate};
+use words::Nodes;
 
-// A file refused with number, line and place; or the number 0, the state after the file's lines, and the goal of its E line.
+// What a file declares: the state after its lines, and the goal of its E line.
 #[derive(Clone, Copy)]
 pub struct Reading {
-    pub number: u8,
-    pub line: usize,
-    pub place: usize,
     pub state: State,
     pub goal: Goal,
 }
 
-// ---- before the first line
-
-// Nothing is declared.
-fn empty() -> State
-    ensures { (f w : List ℕ) → Stands f w result start }
+// Before the first line nothing is declared; a goal that means nothing stands in the place of that of the E line.
+fn nothing() -> Reading
+    ensures { (f w : List ℕ) → Stands f w result.state start }
 {
     let counts = NameCounts {
         subjects: 0,
@@ -43,86 +45,119 @@ fn empty() -> State
         tables: 0,
         sets: 0,
     };
-    let atom = StoredAtom {
-        kind: 0,
-        sort: 0,
-        x: 0,
-        y: 0,
-        z: 0,
+    let place = Place { from: 0, to: 0 };
+    let term = Term::Variable(0);
+    let head = Triple {
+        subject: term,
+        object: term,
+        action: term,
     };
-    let rule = StoredRule {
-        set: 0,
-        head: atom,
-        body: [atom; 4],
-        count: 0,
-    };
-    State {
-        group: 0,
-        counts,
-        starts: [0; 192],
-        ends: [0; 192],
-        tags: [0; 960],
-        marks: [0; 1024],
-        rules: [rule; 64],
-        many: 0,
-        sorts: [3; 4],
-        grants: 0,
+    Reading {
+        state: State {
+            group: Group::Subjects,
+            counts,
+            entries: [Entry { place, tag: 0 }; 192],
+            slots: [0; 768],
+            marks: [0; 1024],
+            rules: [new_rule(0, head); 64],
+            many: 0,
+            sorts: [None; 4],
+            grants: 0,
+        },
+        goal: Goal {
+            limit: 0,
+            nodes: Nodes::new(),
+        },
     }
 }
 
-// What stands in a goal's place until the E line.
-fn no_goal() -> Goal {
-    let nodes = Nodes {
-        cells: [0u8; 772],
-        used: 0,
-        operators: 0,
-        missing: Place::Nowhere,
-    };
-    Goal {
-        number: 0,
-        place: 0,
-        limit: 0,
-        nodes,
-    }
+// ---- S, O and A lines
+
+// The rows of a member's line, and the tag of its parent.
+fn judge_joining(
+    st: &State,
+    file: &[u8],
+    s: Sort,
+    name: Part,
+    parent: Option<Part>,
+) -> Result<u8, Refusal>
+    requires stands { StandsFor file.now st.now }
+    requires named { Named file.now name × IfSome parent (Named file.now) }
+    ensures { (w : List ℕ) (d : Declared) → Stands file.now w st.now d → MemberJoins d (sort_meant s) (text_of file.now name) (maybe_map (text_of file.now) parent) result }
+{
+    state::judge_joining(&st.names(file), st.group, s, name, parent)
+}
+
+// A member's line: refused, or the member added.
+fn add_member(
+    st: &mut State,
+    file: &[u8],
+    s: Sort,
+    name: Part,
+    parent: Option<Part>,
+) -> Result<(), Refusal>
+    requires stands { StandsFor file.now st.old × (length file.now ≤ 32768) }
+    requires named { Named file.now name × IfSome parent (Named file.now) }
+    ensures { (w : List ℕ) (d : Declared) → Stands file.now w st.old d → LineJudged file.now w d (member_line (sort_meant s) (text_of file.now name) (maybe_map (text_of file.now) parent)) st.new result }
+{
+    let tag = judge_joining(st, file, s, name, parent)?;
+    st.add_member(file, s, name, tag);
+    Ok(())
 }
 
 // ---- P lines
 
-fn wide(x: u8) -> usize
-    ensures { result ≡ x }
-{
-    x as usize
-}
-
-// Where the mark of member x by predicate p stands.
-fn mark_at(p: u8, x: u8) -> usize
+// Writes the mark of member x by predicate p.
+fn mark(st: &mut State, p: u8, x: u8)
     requires { (p < 16) × (x < 64) }
-    ensures { result ≡ p * 64 + x }
+    ensures { st.new ≡ marked_of st.old p x }
 {
-    wide(p) * 64 + wide(x)
+    st.marks[usize::from(p) * 64 + usize::from(x)] = 1;
+    st.group = Group::Predicates;
 }
 
-// The counts with one predicate more.
-fn more_predicates(n: NameCounts) -> NameCounts
-    requires { Few n }
-    ensures { result ≡ more_predicates_lem n }
-{
-    let mut next = n;
-    next.predicates = n.predicates + 1;
-    next
-}
-
-// The state with a predicate p of sort s declared, and its first mark: of member x.
-fn first_mark(st: State, s: u8, p: Part, x: u8) -> State
-    requires { Sizes st × Few st.counts × (st.counts.predicates < 16) × (x < 64) × (p.from ≤ 32768) × (p.to ≤ 32768) }
-    ensures { result ≡ marked_of (placed_of st (144 + st.counts.predicates) p.from p.to s (more_predicates_lem st.counts) 3) st.counts.predicates x }
+// Declares a predicate of a sort, and writes its first mark: of member x.
+fn first_mark(st: &mut State, s: Sort, p: Part, x: u8)
+    requires few { Few st.old.counts × (st.old.counts.predicates < 16) × (x < 64) }
+    requires short { (p.from ≤ 32768) × (p.to ≤ 32768) }
+    ensures { st.new ≡ marked_of (placed_of st.old (144 + st.old.counts.predicates) p.from p.to (sort_number (sort_meant s)) (more_predicates st.old.counts) Predicates) st.old.counts.predicates x }
 {
     let n = st.counts;
-    let i = n.predicates;
-    let mut next = placed(st, 144 + wide(i), p, s, more_predicates(n), 3);
-    let k = mark_at(i, x);
-    next.marks[k] = 1;
-    next
+    let counts = NameCounts {
+        predicates: n.predicates + 1,
+        ..n
+    };
+    st.place(
+        PREDICATES + usize::from(n.predicates),
+        p,
+        sort_tag(s),
+        counts,
+        Group::Predicates,
+    );
+    mark(st, n.predicates, x);
+}
+
+// The rows of a P line, and the mark that it makes.
+fn judge_mark(st: &State, file: &[u8], s: Sort, p: Part, m: Part) -> Result<Marking, Refusal>
+    requires stands { StandsFor file.now st.now }
+    requires named { Named file.now p × Named file.now m }
+    ensures { (w : List ℕ) (d : Declared) → Stands file.now w st.now d → PredicateJudged d (sort_meant s) (text_of file.now p) (text_of file.now m) result }
+{
+    judge_predicate(&st.names(file), st.group, s, p, m)
+}
+
+// P: refused, or its mark added. The first line of a predicate declares it.
+fn add_mark(st: &mut State, file: &[u8], s: Sort, p: Part, m: Part) -> Result<(), Refusal>
+    requires stands { StandsFor file.now st.old × (length file.now ≤ 32768) }
+    requires named { Named file.now p × Named file.now m }
+    ensures { (w : List ℕ) (d : Declared) → Stands file.now w st.old d → LineJudged file.now w d (predicate_line (sort_meant s) (text_of file.now p) (text_of file.now m)) st.new result }
+{
+    let made = judge_mark(st, file, s, p, m)?;
+    match made {
+        Marking::Known(i, x) => mark(st, i, x),
+        Marking::Fresh(x) => first_mark(st, s, p, x),
+    }
+    Ok(())
 }
 
 // ---- G lines
@@ -137,219 +172,146 @@ fn put_grant(w: &mut [u8], i: usize, g: u16)
     w[at + 1] = (g / 256) as u8;
 }
 
+// The rows of a G line, and its grant.
+fn judge_grant(st: &State, file: &[u8], t: Part, s: Part, o: Part, a: Part) -> Result<u16, Refusal>
+    requires stands { StandsFor file.now st.now }
+    requires named { Named file.now t × Named file.now s × Named file.now o × Named file.now a }
+    ensures { (w : List ℕ) (d : Declared) → Stands file.now w st.now d → GrantJudged d (text_of file.now t) (text_of file.now s) (text_of file.now o) (text_of file.now a) result }
+{
+    state::judge_grant(&st.names(file), st.group, t, s, o, a)
+}
+
+// G: refused, with the lent memory as it was, or its grant added there.
+fn add_grant(
+    st: &mut State,
+    file: &[u8],
+    w: &mut [u8],
+    t: Part,
+    s: Part,
+    o: Part,
+    a: Part,
+) -> Result<(), Refusal>
+    requires stands { StandsFor file.now st.old }
+    requires room { 2 * st.old.grants + 1 < length w.old }
+    requires named { Named file.now t × Named file.now s × Named file.now o × Named file.now a }
+    ensures judged { (d : Declared) → Stands file.now w.old st.old d → LineJudged file.now w.new d (grant_line (text_of file.now t) (text_of file.now s) (text_of file.now o) (text_of file.now a)) st.new result }
+    ensures beyond { drop (2 * st.new.grants) w.new ≡ drop (2 * st.new.grants) w.old }
+    ensures one_more { (st.old.grants ≤ st.new.grants) × (st.new.grants ≤ st.old.grants + 1) }
+    ensures kept { OnErr result (w.new ≡ w.old) }
+{
+    let grant = judge_grant(st, file, t, s, o, a)?;
+    put_grant(w, st.grants, grant);
+    st.grants += 1;
+    st.group = Group::Grants;
+    Ok(())
+}
+
+// ---- E lines
+
+// The rows of an E line, and its goal.
+fn judge_goal(st: &State, file: &[u8], limit: u16, t: Part) -> Result<Goal, Fault>
+    requires stands { StandsFor file.now st.now × (length file.now ≤ 32768) }
+    requires within { Within file.now t }
+    ensures { (w : List ℕ) (d : Declared) → Stands file.now w st.now d → GoalJudged d limit (text_of file.now t) result }
+{
+    judge_expression(&st.names(file), st.group, limit, t)
+}
+
+// E: refused, or its goal added.
+fn add_goal(r: &mut Reading, file: &[u8], limit: u16, t: Part) -> Result<(), Fault>
+    requires stands { StandsFor file.now r.old.state × (length file.now ≤ 32768) }
+    requires within { Within file.now t }
+    ensures { (w : List ℕ) (d : Declared) → Stands file.now w r.old.state d → GoalLine file.now w d (expression_line limit (text_of file.now t)) r.old.state r.new result }
+{
+    r.goal = judge_goal(&r.state, file, limit, t)?;
+    r.state.group = Group::Expression;
+    Ok(())
+}
+
+// ---- a line of any kind
+
+// A refusal that names no place of the line.
+fn placeless(judged: Result<(), Refusal>) -> Result<(), Fault>
+    ensures { result ≡ fault_of judged }
+{
+    match judged {
+        Ok(()) => Ok(()),
+        Err(refusal) => Err(Fault { refusal, place: 0 }),
+    }
+}
+
+// Reads the line of the file from `from` up to `to`: refused, or added to the reading. Its grant goes to the lent memory.
+fn read_line(
+    r: &mut Reading,
+    file: &[u8],
+    w: &mut [u8],
+    from: usize,
+    to: usize,
+) -> Result<(), Fault>
+    requires stands { StandsFor file.now r.old.state × (length file.now ≤ 32768) }
+    requires room { 2 * r.old.state.grants + 1 < length w.old }
+    requires within { (from ≤ to) × (to ≤ length file.now) }
+    ensures read { (d : Declared) → Stands file.now w.old r.old.state d → LineRead file.now w.new d (parse (slice from to file.now)) r.old r.new result }
+    ensures beyond { drop (2 * r.new.state.grants) w.new ≡ drop (2 * r.new.state.grants) w.old }
+    ensures kept { OnErr result (w.new ≡ w.old) }
+{
+    let Some(l) = parse_line(file, from, to) else {
+        return Err(Fault::from(Refusal::Malformed));
+    };
+    let st = &mut r.state;
+    match l {
+        Parsed::Root(s, name) => placeless(add_member(st, file, s, name, None)),
+        Parsed::Child(s, name, parent) => placeless(add_member(st, file, s, name, Some(parent))),
+        Parsed::Predicate(s, p, m) => placeless(add_mark(st, file, s, p, m)),
+        Parsed::Table(t, here) => placeless(st.table_line(file, t, here)),
+        Parsed::Grant(t, s, o, a) => placeless(add_grant(st, file, w, t, s, o, a)),
+        Parsed::Rule(set, s, o, a) => placeless(add_rule(st, file, set, s, o, a)),
+        Parsed::Expression(limit, t) => add_goal(r, file, limit, t),
+        // B lines.
+        _ => placeless(add_body(st, file, l)),
+    }
+}
+
 // ---- the whole file
 
-// Each line is judged on parts of the state, and what it adds is written where the state stands, so that no line copies all of it but T
-// lines and the first of a predicate or a rule set. The grants go to the lent memory, two bytes each; the bytes after them are
-// unchanged, on a refusal too.
-pub fn read_policy(f: &[u8], w: &mut [u8]) -> Reading
+// The grants go to the lent memory, two bytes each; the bytes after them are unchanged, on a refusal too. A line with a grant has nine
+// bytes or more, its end included. The names are places in the file, so that the loop keeps where each line begins.
+pub fn read_policy(file: &[u8], w: &mut [u8]) -> Result<Reading, Refused>
     requires { length w.old ≡ 8192 }
-    ensures read_as { ReadAs f.now w.new result }
-    ensures w_unchanged { drop (2 * result.state.grants) w.new ≡ drop (2 * result.state.grants) w.old }
+    ensures read_as { ReadAs file.now w.new result }
+    ensures w_unchanged { IfOk result (λ r. drop (2 * r.state.grants) w.new ≡ drop (2 * r.state.grants) w.old) }
+    ensures few_written { drop (2 * (length file.now / 9)) w.new ≡ drop (2 * (length file.now / 9)) w.old }
 {
-    let mut st = empty();
-    let mut goal = no_goal();
-    if !is_file(f) {
-        return Reading {
-            number: 2,
+    if !is_file(file) {
+        return Err(Refused {
+            refusal: Refusal::NoFile,
             line: 0,
             place: 0,
-            state: st,
-            goal,
-        };
+        });
     }
-    let to = f.len();
+    let mut reading = nothing();
+    let to = file.len();
     let mut at = 0;
     let mut line = 0;
     while at < to {
-        let end = piece_end(f, at, to, 10);
-        let l = parse_line(f, at, end);
+        let end = piece_end(file, at, to, b'\n');
         line += 1;
-        at = end + 1;
-        match l {
-            Parsed::Grant(t, s, o, a) => {
-                let n = st.counts;
-                let j = judge_grant(f, &st.starts, &st.ends, &st.tags, n, st.group, t, s, o, a);
-                match j {
-                    Granted::Refused(k) => {
-                        return Reading {
-                            number: k,
-                            line,
-                            place: 0,
-                            state: st,
-                            goal,
-                        };
-                    }
-                    Granted::Grant(g) => {
-                        put_grant(w, st.grants, g);
-                        st.grants = st.grants + 1;
-                        st.group = 5;
-                        continue;
-                    }
-                }
-            }
-            Parsed::Predicate(s, p, m) => {
-                let n = st.counts;
-                let j = judge_predicate(f, &st.starts, &st.ends, &st.tags, n, st.group, s, p, m);
-                match j {
-                    Marking::Unmarked(k) => {
-                        return Reading {
-                            number: k,
-                            line,
-                            place: 0,
-                            state: st,
-                            goal,
-                        };
-                    }
-                    Marking::Known(i, x) => {
-                        let k = mark_at(i, x);
-                        st.marks[k] = 1;
-                        st.group = 3;
-                        continue;
-                    }
-                    Marking::Fresh(x) => {
-                        st = first_mark(st, s, p, x);
-                        continue;
-                    }
-                }
-            }
-            Parsed::Expression(limit, t) => {
-                let n = st.counts;
-                goal = judge_expression(f, &st.starts, &st.ends, &st.tags, n, st.group, limit, t);
-                if goal.number != 0 {
-                    return Reading {
-                        number: goal.number,
-                        line,
-                        place: goal.place,
-                        state: st,
-                        goal,
-                    };
-                }
-                st.group = 7;
-                continue;
-            }
-            // R: the first rule of a set declares it.
-            Parsed::Rule(set, s, o, a) => {
-                let n = st.counts;
-                let many = st.many;
-                let j = judge_rule(
-                    f, &st.starts, &st.ends, &st.tags, n, st.group, many, set, s, o, a,
-                );
-                if j.number != 0 {
-                    return Reading {
-                        number: j.number,
-                        line,
-                        place: 0,
-                        state: st,
-                        goal,
-                    };
-                }
-                let rule = new_rule(j.set, j.head);
-                let sorts = j.sorts;
-                if j.fresh {
-                    st = first_rule(st, set, rule, sorts);
-                    continue;
-                }
-                let i = wide(many);
-                st.rules[i] = rule;
-                st.many = many + 1;
-                st.sorts = sorts;
-                st.group = 6;
-                continue;
-            }
-            Parsed::Table(t, here) => {
-                let next = table_line(f, st, t, here);
-                if next.number != 0 {
-                    return Reading {
-                        number: next.number,
-                        line,
-                        place: 0,
-                        state: st,
-                        goal,
-                    };
-                }
-                st = next.state;
-                continue;
-            }
-            // S, O, A, B, or of wrong form.
-            _ => {
-                let n = st.counts;
-                let j = judge_joining(f, &st.starts, &st.ends, &st.tags, n, st.group, l);
-                match j {
-                    Joining::Barred(k) => {
-                        return Reading {
-                            number: k,
-                            line,
-                            place: 0,
-                            state: st,
-                            goal,
-                        };
-                    }
-                    // The next entry of the sort, and its slot in the index.
-                    Joining::Joins(s, name, tag) => {
-                        let m = members(n, s);
-                        let i = member_entry(s, m);
-                        st.starts[i] = name.from as u16;
-                        st.ends[i] = name.to as u16;
-                        st.tags[i] = tag;
-                        insert_member(&mut st.tags, s, f, name.from, name.to, m);
-                        st.counts = more_members(n, s);
-                        st.group = s;
-                        continue;
-                    }
-                    Joining::Elsewhere => {
-                        if !is_body(l) {
-                            return Reading {
-                                number: 3,
-                                line,
-                                place: 0,
-                                state: st,
-                                goal,
-                            };
-                        }
-                        // B: one atom more for the last rule.
-                        let many = st.many;
-                        let i = last_at(many);
-                        let last = st.rules[i];
-                        let lines = lines_in(many, last);
-                        let sorts = st.sorts;
-                        let b = judge_body(
-                            f, &st.starts, &st.ends, &st.tags, n, st.group, many, lines, sorts, l,
-                        );
-                        if b.number != 0 {
-                            return Reading {
-                                number: b.number,
-                                line,
-                                place: 0,
-                                state: st,
-                                goal,
-                            };
-                        }
-                        st.rules[i] = with_line(last, b.atom);
-                        let noted = b.sorts;
-                        st.sorts = noted;
-                        st.group = 6;
-                        continue;
-                    }
-                }
-            }
+        if let Err(fault) = read_line(&mut reading, file, w, at, end) {
+            return Err(Refused {
+                refusal: fault.refusal,
+                line,
+                place: fault.place,
+            });
         }
+        at = end + 1;
     }
-    let unended = st.group != 7;
+    let unended = reading.state.group != Group::Expression;
     if unended {
-        return Reading {
-            number: 9,
+        return Err(Refused {
+            refusal: Refusal::NoExpression,
             line: 0,
             place: 0,
-            state: st,
-            goal,
-        };
+        });
     }
-    Reading {
-        number: 0,
-        line: 0,
-        place: 0,
-        state: st,
-        goal,
-    }
+    Ok(reading)
 }

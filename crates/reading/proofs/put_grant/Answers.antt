@@ -1,4 +1,4 @@
-use mathlib.Core.Path.{refl}
+use Rattle.std.proofs.Common.{refl}
 use Rattle.state.specs.Standing.{grant_written}
 use Rattle.reading.proofs.put_grant.Goals as goal
 

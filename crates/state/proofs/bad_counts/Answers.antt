@@ -1,57 +1,37 @@
-use borrow.Author.Tests.{lt-ltb, le-ltb, lt-leb, le-leb, eq-eqb, ne_eqb}
-use Prim.Native.Nat.{◌*◌}
-use native.Mathlib.Omega.{arith}
+use borrow.Author.Tests.{eq-eqb, ne_eqb}
 use Rattle.state.specs.Judged.{bad_counts_of}
-use Rattle.state.proofs.Numbers.{product}
+use Rattle.state.proofs.Turns.{past_members, at_members, of_members, after_members}
+use Rattle.state.proofs.bad_counts.Goals.{then-le-via-then-le, then-le-via-else-le+then-lt}
+use Rattle.state.proofs.bad_counts.Goals.{then-n-eq0-via-then-n-eq0, then-n-eq0-via-else-n-eq0+then-n-eq0-2}
+use Rattle.state.proofs.bad_counts.Goals.{then-n-eq0-via-else-n-eq0+else-n-eq0-2+then-n-eq0-3}
 use Rattle.state.proofs.bad_counts.Goals as goal
 
-pub returns-then-group-ge3 : goal.returns-then-group-ge3
+pub returns-then-le : goal.returns-then-le
 unfolding bad_counts_of
-returns-then-group-ge3 c = simp (le-ltb _ 3 c.if-group-ge3.true)
-
-pub returns-then-g-lt3 : goal.returns-then-g-lt3
-unfolding bad_counts_of
-returns-then-g-lt3 c = simp (lt-ltb _ 3 c.if-group-ge3.false, lt-leb 3 _ c.if-g-lt3.true)
+returns-then-le c =
+    elim c.then-le.branch [
+      | then-le-via-then-le w ↦ simp (past_members c.args.group c.le.ensures w.if-le.true)
+      | then-le-via-else-le+then-lt w ↦ simp (at_members c.args.group c.le.ensures w.if-le.false, of_members c.args.g w.lt.ensures w.if-lt.true)
+    ]
 
 pub returns-then-n-eq0 : goal.returns-then-n-eq0
 unfolding bad_counts_of
-returns-then-n-eq0 c = simp (lt-ltb _ 3 c.if-group-ge3.false, le-leb 3 _ c.if-g-lt3.false, eq-eqb _ 0 c.if-n-eq0.true)
-
-pub returns-then-n-eq0-2 : goal.returns-then-n-eq0-2
-unfolding bad_counts_of
-returns-then-n-eq0-2 c =
-    simp (lt-ltb _ 3 c.if-group-ge3.false, le-leb 3 _ c.if-g-lt3.false, ne_eqb _ 0 c.if-n-eq0.false, eq-eqb _ 0 c.if-n-eq0-2.true)
-
-pub returns-then-n-eq0-3 : goal.returns-then-n-eq0-3
-unfolding bad_counts_of
-returns-then-n-eq0-3 c =
-    simp (
-      lt-ltb _ 3 c.if-group-ge3.false,
-      le-leb 3 _ c.if-g-lt3.false,
-      ne_eqb _ 0 c.if-n-eq0.false,
-      ne_eqb _ 0 c.if-n-eq0-2.false,
-      eq-eqb _ 0 c.if-n-eq0-3.true,
-    )
-
-pub overflow_mul-result : goal.overflow_mul-result
-overflow_mul-result c =
-    let p = product c.wide.result c.wide-2.result 255 255 (omega (arith, c.wide.ensures.1)) (omega (arith, c.wide-2.ensures.1)) in
-    omega arith
-
-pub overflow_mul-result-2 : goal.overflow_mul-result-2
-overflow_mul-result-2 c =
-    let wide2 = c.wide-2 in
-    let wide = c.wide in
-    let p = product wide.result wide2.result 255 255 (omega (arith, wide.ensures.1)) (omega (arith, wide2.ensures.1)) in
-    let q = product (wide.result * wide2.result) c.wide-3.result 65025 255 (omega arith) (omega (arith, c.wide-3.ensures.1)) in
-    omega arith
+returns-then-n-eq0 c =
+    let p = at_members c.args.group c.le.ensures c.if-le.false in
+    let q = after_members c.args.g c.lt.ensures c.if-lt.false in
+    elim c.then-n-eq0.branch [
+      | then-n-eq0-via-then-n-eq0 w ↦ simp (p, q, eq-eqb _ 0 w.if-n-eq0.true)
+      | then-n-eq0-via-else-n-eq0+then-n-eq0-2 w ↦ simp (p, q, ne_eqb _ 0 w.if-n-eq0.false, eq-eqb _ 0 w.if-n-eq0-2.true)
+      | then-n-eq0-via-else-n-eq0+else-n-eq0-2+then-n-eq0-3 w ↦
+          simp (p, q, ne_eqb _ 0 w.if-n-eq0.false, ne_eqb _ 0 w.if-n-eq0-2.false, eq-eqb _ 0 w.if-n-eq0-3.true)
+    ]
 
 pub returns : goal.returns
 unfolding bad_counts_of
 returns c =
-    rw (c.wide.ensures.0, c.wide-2.ensures.0, c.wide-3.ensures.0) (simp (
-      lt-ltb _ 3 c.if-group-ge3.false,
-      le-leb 3 _ c.if-g-lt3.false,
+    rw (c.from.ensures, c.from-2.ensures, c.from-3.ensures) (simp (
+      at_members c.args.group c.le.ensures c.if-le.false,
+      after_members c.args.g c.lt.ensures c.if-lt.false,
       ne_eqb _ 0 c.if-n-eq0.false,
       ne_eqb _ 0 c.if-n-eq0-2.false,
       ne_eqb _ 0 c.if-n-eq0-3.false,

@@ -1,40 +1,40 @@
 use mathlib.Core.Path.{sym, ap, ◌∙◌}
-use Rattle.names.specs.Entries.{found_of}
-use Rattle.state.proofs.Names.{predicate_4, predicate_8, predicate_7, known_6, known_good, fresh_6, fresh_good}
+use Rattle.std.proofs.lemmas.Result.{err_from_is_err_and}
+use Rattle.name_index.specs.Parts.{found_of}
+use Rattle.state.proofs.Turns.{turn_ok}
+use Rattle.state.proofs.Names.{predicate_late, predicate_7, known_6, known_good, fresh_6, fresh_good}
 use Rattle.state.proofs.judge_predicate.Goals as goal
 
-pub returns-then-late : goal.returns-then-late
-returns-then-late c d ns g = predicate_4 _ _ _ _ _ d ns _ g _ _ _ (sym c.late.ensures ∙ c.if-late.true)
+pub returns-in_err-in_turn : goal.returns-in_err-in_turn
+returns-in_err-in_turn c d ns g =
+    let p = err_from_is_err_and c.from_residual.result c.from_residual.ensures.1 in
+    rw (p.1, p.2) (predicate_late _ d ns _ g _ _ _ (sym c.in_err-in_turn.ensures))
 
-pub returns-then-bad_counts : goal.returns-then-bad_counts
-returns-then-bad_counts c d ns g =
-    predicate_8 _ _ _ _ _ d ns _ g _ _ _ (sym c.late.ensures ∙ c.if-late.false) (sym c.bad_counts.ensures ∙ c.if-bad_counts.true)
+pub returns-in_err-declared-in-Some : goal.returns-in_err-declared-in-Some
+returns-in_err-declared-in-Some c d ns g =
+    let p = err_from_is_err_and c.from_residual-in_err-declared-in-Some.result c.from_residual-in_err-declared-in-Some.ensures.1 in
+    let turn = turn_ok _ _ (sym c.in_ok-in_turn.ensures) in
+    rw (p.1, p.2, c.in_err-declared-in-Some.ensures.1)
+    (known_6 _ d ns _ g _ _ _ turn.0 turn.1 (sym c.look.ensures ∙ ap found_of c.in-Some.is) c.in_err-declared-in-Some.ensures.0)
 
-pub returns-in_default : goal.returns-in_default
-returns-in_default c d ns g =
-    known_6 _ _ _ _ _ d ns _ g _ _ _ (sym c.late.ensures ∙ c.if-late.false) (sym c.bad_counts.ensures ∙ c.if-bad_counts.false)
-    (sym c.look-there.ensures ∙ ap found_of c.in-At.is) (sym c.look-held.ensures ∙ ap found_of c.in_default.is)
+pub returns-then-names-ge16 : goal.returns-then-names-ge16
+returns-then-names-ge16 c d ns g =
+    let turn = turn_ok _ _ (sym c.in_ok-in_turn.ensures) in
+    predicate_7 _ d ns _ g _ _ _ turn.0 turn.1 (sym c.look.ensures ∙ ap found_of c.in-None.is) c.if-names-ge16.true
 
-pub returns-then-n-ge16 : goal.returns-then-n-ge16
-returns-then-n-ge16 c d ns g =
-    predicate_7 _ _ _ _ _ d ns _ g _ _ _ (sym c.late.ensures ∙ c.if-late.false)
-    (sym c.bad_counts.ensures ∙ c.if-bad_counts.false) (sym c.look-there.ensures ∙ ap found_of c.in-Nothing.is)
-    c.if-n-ge16.true
+pub returns-in_err-declared-in-None : goal.returns-in_err-declared-in-None
+returns-in_err-declared-in-None c d ns g =
+    let p = err_from_is_err_and c.from_residual-in_err-declared-in-None.result c.from_residual-in_err-declared-in-None.ensures.1 in
+    let turn = turn_ok _ _ (sym c.in_ok-in_turn.ensures) in
+    rw (p.1, p.2, c.in_err-declared-in-None.ensures.1)
+    (fresh_6 _ d ns _ g _ _ _ turn.0 turn.1 (sym c.look.ensures ∙ ap found_of c.in-None.is) c.if-names-ge16.false c.in_err-declared-in-None.ensures.0)
 
-pub returns-in_default-held : goal.returns-in_default-held
-returns-in_default-held c d ns g =
-    fresh_6 _ _ _ _ _ d ns _ g _ _ _ (sym c.late.ensures ∙ c.if-late.false) (sym c.bad_counts.ensures ∙ c.if-bad_counts.false)
-    (sym c.look-there.ensures ∙ ap found_of c.in-Nothing.is) c.if-n-ge16.false
-    (sym c.look-held.ensures ∙ ap found_of c.in_default-held.is)
+pub returns-in_ok-declared-in-Some : goal.returns-in_ok-declared-in-Some
+returns-in_ok-declared-in-Some c d ns g =
+    let turn = turn_ok _ _ (sym c.in_ok-in_turn.ensures) in
+    known_good _ d ns _ g _ _ _ turn.0 turn.1 (sym c.look.ensures ∙ ap found_of c.in-Some.is) c.in_ok-declared-in-Some.ensures
 
-pub returns-in-At-held : goal.returns-in-At-held
-returns-in-At-held c d ns g =
-    known_good _ _ _ _ _ d ns _ g _ _ _ (sym c.late.ensures ∙ c.if-late.false)
-    (sym c.bad_counts.ensures ∙ c.if-bad_counts.false) (sym c.look-there.ensures ∙ ap found_of c.in-At.is)
-    (sym c.look-held.ensures ∙ ap found_of c.in-At-held.is)
-
-pub returns-in-At-held-2 : goal.returns-in-At-held-2
-returns-in-At-held-2 c d ns g =
-    fresh_good _ _ _ _ _ d ns _ g _ _ _ (sym c.late.ensures ∙ c.if-late.false)
-    (sym c.bad_counts.ensures ∙ c.if-bad_counts.false) (sym c.look-there.ensures ∙ ap found_of c.in-Nothing.is)
-    c.if-n-ge16.false (sym c.look-held.ensures ∙ ap found_of c.in-At-held-2.is)
+pub returns-in_ok-declared-in-None : goal.returns-in_ok-declared-in-None
+returns-in_ok-declared-in-None c d ns g =
+    let turn = turn_ok _ _ (sym c.in_ok-in_turn.ensures) in
+    fresh_good _ d ns _ g _ _ _ turn.0 turn.1 (sym c.look.ensures ∙ ap found_of c.in-None.is) c.if-names-ge16.false c.in_ok-declared-in-None.ensures
