@@ -5,23 +5,22 @@ use mathlib.Core.List.{List}
 use Prim.Native.Nat.{ℕ, ◌+◌, ◌*◌, ◌≤◌, ◌<◌}
 use native.Mathlib.Omega.{arith}
 use lib.ListN.{length, get_or, length-map}
-use Rattle.algebra.specs.Lists.{tab}
 use Rattle.algebra.specs.Sort.{Sort, subject, object, action}
 use Rattle.algebra.specs.Policy.{Frame, parents, members, is_marked}
 use Rattle.algebra.specs.StoredFrame.{size_of, order_at, order_byte_lem, Stands, parent_of, parents_of, Filled}
 use Rattle.algebra.specs.declared.Counts.{Counts}
 use Rattle.sets.specs.Bytes.{put}
-use Rattle.sets.proofs.Bytes.{put_tab_low, put_tab_at}
+use Rattle.sets.proofs.Bytes.{put_low, put_at}
 use Rattle.composer.specs.Compose.{Listed}
 
 module _ (s o a marks t₀ t₁ t₂ t₃ t : List ℕ) (fs : Filled 0 (parents_of s) t₀ t₁) (fo : Filled 1 (parents_of o) t₁ t₂) (fa : Filled 2 (parents_of a) t₂ t₃)
-    (q : t ≡ put 12288 (tab 1024 (λ i. get_or marks i 0)) t₃) (long : length t₃ ≡ 16384) (few-s : length s ≤ 64) (few-o : length o ≤ 64)
+    (q : t ≡ put 12288 marks t₃) (all : length marks ≡ 1024) (long : length t₃ ≡ 16384) (few-s : length s ≤ 64) (few-o : length o ≤ 64)
     (few-a : length a ≤ 64) where
   size : (l : List ℕ) → length (parents_of l) ≡ length l
   size l = length-map l parent_of
 
   low : (i : ℕ) → i < 12288 → get_or t i 0 ≡ get_or t₃ i 0
-  low i h = ap (λ u. get_or u i 0) q ∙ put_tab_low 12288 1024 (λ i. get_or marks i 0) t₃ (omega arith) i h
+  low i h = ap (λ u. get_or u i 0) q ∙ put_low 12288 marks t₃ (omega arith) i h
 
   order_subject : (x y : ℕ) → x < length (parents_of s) → y < length (parents_of s) → get_or t (0 + x * 64 + y) 0 ≡ order_byte_lem (parents_of s) x y
   order_subject x y h k =
@@ -60,5 +59,5 @@ module _ (s o a marks t₀ t₁ t₂ t₃ t : List ℕ) (fs : Filled 0 (parents_
           let i : 12288 + p * 64 + x ≡ 12288 + (p * 64 + x) = omega arith in
           ap (λ i. get_or t i 0) i
           ∙ ap (λ u. get_or u (12288 + (p * 64 + x)) 0) q
-          ∙ put_tab_at 12288 1024 (λ i. get_or marks i 0) t₃ (omega arith) (p * 64 + x) (omega (arith, few σ))
+          ∙ put_at 12288 marks t₃ (omega arith) (p * 64 + x) (omega (arith, few σ))
           ∙ li.same_marks σ p x h k

@@ -1,12 +1,11 @@
 -- What a number in a tree stands for: a binding in force, or a table.
-use mathlib.Core.Path.{◌≡◌, refl, sym, ap, fun_ext, ◌∙◌}
-use mathlib.Core.Bool.{true, false}
+use mathlib.Core.Path.{◌≡◌, sym, ap, fun_ext, ◌∙◌}
+use mathlib.Core.Bool.{Bool, true, false}
 use mathlib.Core.List.{List, [], ◌∷◌}
-use Prim.Native.Nat.{ℕ, zero, suc, ◌+◌, ◌*◌, ◌-◌, ◌≤◌, ◌<◌, ◌/◌, ◌%◌}
+use Prim.Native.Nat.{ℕ, suc, ◌+◌, ◌*◌, ◌-◌, ◌≤◌, ◌<◌, ◌/◌, ◌%◌}
 use native.Mathlib.Omega.{arith}
 use lib.Dec.{eqb}
 use lib.ListN.{get_or}
-use borrow.Author.Tests.{eq-eqb, ne_eqb}
 use Rattle.algebra.specs.Lists.{any, gather, only, upto, tab}
 use Rattle.algebra.specs.Answer.{Answer, undecided, byte, sure}
 use Rattle.algebra.specs.Algebra.{bind}
@@ -21,42 +20,38 @@ use Rattle.composer.specs.declared.Setting.{Setting}
 
 -- ---- a table
 
-pub is_here : (i : ℕ) (here : List ℕ) (grants : ℕ) (w : List ℕ) (x : ℕ) → get_or here i 0 ≡ 1
+pub is_here : (i : ℕ) (here : List Bool) (grants : ℕ) (w : List ℕ) (x : ℕ) → get_or here i false ≡ true
     → table_in here grants w i x ≡ sure (any (eqb x) (grants_of 57344 i grants w))
 unfolding table_in
-is_here i here grants w x e = rw (eq-eqb (get_or here i 0) 1 e, table_in)
+is_here i here grants w x e = rw (e, table_in)
 
-pub is_away : (i : ℕ) (here : List ℕ) (grants : ℕ) (w : List ℕ) (x : ℕ) → (get_or here i 0 ≡ 1 → ⊥) → table_in here grants w i x ≡ undecided
+pub is_away : (i : ℕ) (here : List Bool) (grants : ℕ) (w : List ℕ) (x : ℕ) → get_or here i false ≡ false → table_in here grants w i x ≡ undecided
 unfolding table_in
-is_away i here grants w x e = rw (ne_eqb (get_or here i 0) 1 e, table_in)
+is_away i here grants w x e = rw (e, table_in)
 
-module _ (k n table : ℕ) (here : List ℕ) (i grants : ℕ) (w w' : List ℕ) (at : i ≡ table) where
-  pub table_here : get_or here i 0 ≡ 1 → w' ≡ put_set k n (λ x. sure (any (eqb x) (grants_of 57344 table grants w))) w
+-- m is n, and i the table, as the code has them
+module _ (k n m table : ℕ) (here : List Bool) (i grants : ℕ) (w w' : List ℕ) (is : m ≡ n) (at : i ≡ table) where
+  pub table_here : get_or here i false ≡ true → w' ≡ put_set k m (λ x. sure (any (eqb x) (grants_of 57344 table grants w))) w
       → w' ≡ put_set k n (table_in here grants w table) w
-  table_here e q = q ∙ put_set_cong k n _ _ w (λ x h. sym (is_here table here grants w x (ap (λ i. get_or here i 0) (sym at) ∙ e)))
+  table_here e q =
+      q ∙ ap (λ n. put_set k n (λ x. sure (any (eqb x) (grants_of 57344 table grants w))) w) is
+      ∙ put_set_cong k n _ _ w (λ x h. sym (is_here table here grants w x (ap (λ i. get_or here i false) (sym at) ∙ e)))
 
-  pub table_away : (get_or here i 0 ≡ 1 → ⊥) → w' ≡ put_set k n (λ x. undecided) w → w' ≡ put_set k n (table_in here grants w table) w
-  table_away e q = q ∙ put_set_cong k n _ _ w (λ x h. sym (is_away table here grants w x (λ r. e (ap (λ i. get_or here i 0) at ∙ r))))
+  pub table_away : get_or here i false ≡ false → w' ≡ put_set k m (λ x. undecided) w → w' ≡ put_set k n (table_in here grants w table) w
+  table_away e q =
+      q ∙ ap (λ n. put_set k n (λ x. undecided) w) is
+      ∙ put_set_cong k n _ _ w (λ x h. sym (is_away table here grants w x (ap (λ i. get_or here i false) (sym at) ∙ e)))
 
 -- the tables are the same where the bytes beyond the sets are
-tables_same : (here : List ℕ) (grants : ℕ) (w w' : List ℕ) → ((i : ℕ) → 57344 ≤ i → get_or w' i 0 ≡ get_or w i 0) → table_in here grants w' ≡ table_in here grants w
+tables_same : (here : List Bool) (grants : ℕ) (w w' : List ℕ) → ((i : ℕ) → 57344 ≤ i → get_or w' i 0 ≡ get_or w i 0)
+    → table_in here grants w' ≡ table_in here grants w
 unfolding table_in grants_of
 tables_same here grants w w' h =
     let e : grant_at_lem 57344 w' ≡ grant_at_lem 57344 w = fun_ext (λ i. rw (h (57344 + 2 * i) (omega arith), h (57344 + 2 * i + 1) (omega arith))) in
     let list : (ℕ → ℕ) → ℕ → List ℕ = λ g i. gather (λ j. only (eqb (g j / 4096) i) (g j % 4096 ∷ [])) (upto grants) in
-    ap {B = ℕ → ℕ → Answer} (λ g i x. elim (eqb (get_or here i 0) 1) [ true ↦ sure (any (eqb x) (list g i)) | false ↦ undecided ]) e
+    ap {B = ℕ → ℕ → Answer} (λ g i x. elim (get_or here i false) [ true ↦ sure (any (eqb x) (list g i)) | false ↦ undecided ]) e
 
 -- ---- a set more that is bound
-
-pub is_inner : (k : ℕ) (b : Bound) → b.count < 4
-    → Inner k b (record { count = b.count + 1; sets = k ∷ get_or b.sets 0 0 ∷ get_or b.sets 1 0 ∷ get_or b.sets 2 0 ∷ [] })
-is_inner k b few = record { one_more = omega arith; first = refl; others = go }
-  where
-    go : (n : ℕ) → n < b.count → get_or (k ∷ get_or b.sets 0 0 ∷ get_or b.sets 1 0 ∷ get_or b.sets 2 0 ∷ []) (suc n) 0 ≡ get_or b.sets n 0
-    go zero l = refl
-    go (suc zero) l = refl
-    go (suc (suc zero)) l = refl
-    go (suc (suc (suc n))) l = absurd (omega arith)
 
 pub below_more : (k i : ℕ) (b : Bound) → k ≤ i → Below k b → Below i b
 below_more k i b h low n l = omega (arith, low n l)
@@ -68,20 +63,18 @@ below_inner k b b' i low =
 
 -- ---- the number of a node
 
--- j is the set of a binding
-pub bound_set : (b : Bound) (k number i j : ℕ) → Below k b → number < b.count → i ≡ number → j ≡ get_or b.sets i 0 → j < k
-bound_set b k number i j low l p q = omega (arith, q ∙ ap (λ i. get_or b.sets i 0) p, low number l)
+module _ (s : Setting) (b : Bound) (k n number : ℕ) (w w' : List ℕ) (T : ℕ → ℕ → Answer) (f : InForce s b n w T) where
+  -- i is the number, j its set, and m is n, as the code has them
+  pub named_bound : (i j m : ℕ) → number < b.count → i ≡ number → j ≡ get_or b.sets i 0 → m ≡ n → w' ≡ put (k * 4096) (tab m (byte_at j w)) w
+      → w' ≡ put_set k n (T number) w
+  named_bound i j m l p q is e =
+      e ∙ ap (λ n. put (k * 4096) (tab n (byte_at j w)) w) is
+      ∙ copied k j n (T number) w (λ x h. ap (λ j. byte_at j w x) (q ∙ ap (λ i. get_or b.sets i 0) p) ∙ f.bound number l x h)
 
-module _ (s : Setting) (b : Bound) (k number : ℕ) (w w' : List ℕ) (T : ℕ → ℕ → Answer) (f : InForce s b s.size w T) where
-  pub named_bound : (i j : ℕ) → number < b.count → i ≡ number → j ≡ get_or b.sets i 0 → w' ≡ put (k * 4096) (tab s.size (byte_at j w)) w
-      → w' ≡ put_set k s.size (T number) w
-  named_bound i j l p q e =
-      e ∙ copied k j s.size (T number) w (λ x h. ap (λ j. byte_at j w x) (q ∙ ap (λ i. get_or b.sets i 0) p) ∙ f.bound number l x h)
-
-  pub named_table : b.count ≤ number → w' ≡ put_set k s.size (table_in s.here s.grants w (number - b.count)) w → w' ≡ put_set k s.size (T number) w
+  pub named_table : b.count ≤ number → w' ≡ put_set k n (table_in s.here s.grants w (number - b.count)) w → w' ≡ put_set k n (T number) w
   named_table l e =
-      let n : number ≡ b.count + (number - b.count) = omega arith in
-      e ∙ put_set_cong k s.size _ _ w (λ x h. sym (ap (λ i. T i x) n ∙ f.table (number - b.count) x h))
+      let is : number ≡ b.count + (number - b.count) = omega arith in
+      e ∙ put_set_cong k n _ _ w (λ x h. sym (ap (λ i. T i x) is ∙ f.table (number - b.count) x h))
 
 -- ---- what stays in force
 

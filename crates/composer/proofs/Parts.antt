@@ -3,39 +3,41 @@ use mathlib.Core.Path.{◌≡◌, refl, sym, ap, subst, ◌∙◌}
 use mathlib.Core.Logic.{inl, inr}
 use mathlib.Core.List.{List}
 use Prim.Native.Nat.{ℕ, suc, ◌+◌, ◌*◌, ◌-◌, ◌≤◌, ◌<◌}
-use native.Mathlib.Decide.{dec_lt}
 use native.Mathlib.Omega.{arith}
-use lib.ListN.{length}
+use lib.ListN.{length, get_or, take}
+use lib.Seq.{get_or-take}
+use Rattle.std.proofs.lemmas.List.{get_or_default}
 use Rattle.algebra.specs.Algebra.{Tree, Uses, held, bindings}
 use Rattle.algebra.specs.Nodes.{Encodes, back}
-use Rattle.algebra.specs.Policy.{Scope}
-use Rattle.algebra.specs.Stored.{stored_joiner}
+use Rattle.algebra.specs.declared.Joiner as joiners
+use Rattle.algebra.specs.Policy.{Frame}
+use Rattle.algebra.specs.Policy as policy
 use Rattle.algebra.specs.declared.Counts.{Counts}
-use Rattle.algebra.specs.declared.StoredRule.{StoredRule}
 use Rattle.algebra.proofs.Algebra.{by_table}
 use Rattle.algebra.proofs.Nodes.{held_some, some_nodes, is_table, halves, thirds, scoped, closed, filled}
-use Rattle.plans.specs.Stored.{Ready}
-use Rattle.nodes.specs.Cells.{cell_in, node_of, label}
-use Rattle.nodes.specs.declared.Cell.{Cell}
-use Rattle.nodes.proofs.Says.{says_table, says_join, says_override, says_scope, says_closure, says_template}
+use Rattle.nodes.specs.Cells.{label}
+use Rattle.nodes.specs.declared.Node.{Node}
+use Rattle.nodes.specs.declared.Node.TheVariants.{Table, Join, Override, Scope, Closure, Template}
+use Rattle.nodes.proofs.Parts.{coded_take, start_take}
+use Rattle.nodes.proofs.Held.{own_label, slice_length}
 use Rattle.composer.specs.Compose.{Fits}
-use Rattle.composer.specs.Run.{Sized, FewRounds}
+use Rattle.composer.specs.Run.{Sized, FewRounds, AllAnswered}
+use Rattle.composer.specs.declared.Bound.{Bound}
+use Rattle.composer.specs.declared.Setting.{Setting}
+use Rattle.algebra.specs.declared.Scope as scopes
 
-pub sized_set : {n : Counts} {m : List ℕ} {end k q : ℕ} → Sized n m end k q → k < 14
+pub sized_set : {n : Counts} {m : List Node} {end k q : ℕ} → Sized n m end k q → k < 14
 sized_set w = omega (arith, held_some w.nodes.tree, w.room)
 
-pub sized_some : {n : Counts} {m : List ℕ} {end k q : ℕ} → Sized n m end k q → 0 < end
+pub sized_some : {n : Counts} {m : List Node} {end k q : ℕ} → Sized n m end k q → 0 < end
 sized_some w = omega (arith, some_nodes w.nodes.coded)
 
-pub few_accesses : {n : Counts} {size t : ℕ} {rules : List StoredRule} {many : ℕ} → Ready n size t rules many → size ≤ 4096
-few_accesses r = omega (arith, r.set, r.sized.few)
-
 -- so many rounds fit a machine word
-pub few_rounds : {n : Counts} {m : List ℕ} {end k q : ℕ} → Sized n m end k q → (r : ℕ) → FewRounds m end r → r ≤ 4096 * 193
-few_rounds w r f = omega (arith, f w.nodes.tree w.nodes.start w.nodes.coded, w.nodes.few)
+few_in_all : {n : Counts} {m : List Node} {end k q : ℕ} → Sized n m end k q → (r : ℕ) → FewRounds m end r → r ≤ 4096 * 193
+few_in_all w r f = omega (arith, f w.nodes.tree w.nodes.start w.nodes.coded, w.nodes.few)
 
 -- a part, from a to b, whose answers come to set i, with p bindings in force outside it
-part : {n : Counts} {m : List ℕ} {end k q : ℕ} (w : Sized n m end k q) (t : Tree Scope) (a b i p : ℕ) → w.nodes.start ≤ a → b ≤ end
+part : {n : Counts} {m : List Node} {end k q : ℕ} (w : Sized n m end k q) (t : Tree policy.Scope) (a b i p : ℕ) → w.nodes.start ≤ a → b ≤ end
     → Encodes (label m) t a b → i + held t ≤ 14 → p + bindings t ≤ 4 → ((j : ℕ) → Uses t j → j < p + 16) → Sized n m b i p
 part w t a b i p h l e r o u =
     record {
@@ -47,29 +49,75 @@ part w t a b i p h l e r o u =
     }
 
 -- the tables of the tree, where this is t
-names : {n : Counts} {m : List ℕ} {end k q : ℕ} (w : Sized n m end k q) {t : Tree Scope} → w.nodes.tree ≡ t → (j : ℕ) → Uses t j → j < q + 16
+names : {n : Counts} {m : List Node} {end k q : ℕ} (w : Sized n m end k q) {t : Tree policy.Scope} → w.nodes.tree ≡ t → (j : ℕ) → Uses t j → j < q + 16
 names w e j u = w.tables j (subst (λ t. Uses t j) (sym e) u)
 
--- c is the tree's own node
-module _ {n : Counts} {m : List ℕ} {end k q : ℕ} (w : Sized n m end k q) (c : Cell) (o : c ≡ cell_in m (end - 1)) where
-  own : label m (end - 1) ≡ node_of c
-  own = ap node_of (sym o)
+-- ---- the slice of a part's nodes
+
+pub sized_take : {n : Counts} {m : List Node} {end k q : ℕ} → Sized n m end k q → Sized n (take end m) (length (take end m)) k q
+sized_take {n} {m} {end} {k} {q} w =
+    let e : length (take end m) ≡ end = slice_length w.nodes in
+    subst (λ h. Sized n (take end m) h k q) (sym e)
+    (record {
+      nodes = record {
+        tree = w.nodes.tree;
+        start = w.nodes.start;
+        coded = coded_take end m (omega arith) w.nodes.coded;
+        few = w.nodes.few;
+        long = omega arith;
+      };
+      room = w.room;
+      in_force = w.in_force;
+      tables = w.tables;
+      fits = λ j x y. subst (Fits n) (sym (get_or-take end m j Template y)) (w.fits j x y);
+    })
+
+-- what a run says of the slice of a part's nodes, it says of the part
+module _ {n : Counts} {m : List Node} {end k q : ℕ} (w : Sized n m end k q) where
+  pub few_told : (r : ℕ) → FewRounds (take end m) (length (take end m)) r → FewRounds m end r
+  few_told r f e lo en =
+      let long = slice_length w.nodes in
+      omega (arith, f e lo (subst (Encodes (label (take end m)) e lo) (sym long) (coded_take end m (omega arith) en)))
+
+  pub few_rounds : (r : ℕ) → FewRounds (take end m) (length (take end m)) r → r ≤ 4096 * 193
+  few_rounds r f = few_in_all w r (few_told r f)
+
+  pub all_told : (fr : Frame) (i : ℕ) (b : Bound) (s : Setting) (u : List ℕ) (r : ℕ) (u' : List ℕ)
+      → AllAnswered fr (take end m) (length (take end m)) i b s u r u' → AllAnswered fr m end i b s u r u'
+  all_told fr i b s u r u' f T o e lo en =
+      f T o e lo (subst (Encodes (label (take end m)) e lo) (sym (slice_length w.nodes)) (coded_take end m (omega arith) en))
+
+-- ---- the parts of a tree
+
+-- where the last part begins of the nodes before `end`, by the walk back over their slice
+abbrev pub Starts : List Node → ℕ → ℕ → Type 0
+Starts m end mid = mid ≡ back (label (take end m)) (length (take end m)) 1
+
+module _ {n : Counts} {m : List Node} {end k q : ℕ} (w : Sized n m end k q) where
+  pub mid_is : {mid : ℕ} → Starts m (end - 1) mid → mid ≡ back (label m) (end - 1) 1
+  mid_is s = start_take m (omega (arith, w.nodes.long)) s
+
+  -- the own node, as the code reads it
+  abbrev pub Own : Node → Type 0
+  Own s = get_or m (end - 1) (Table 0) ≡ s
 
   abbrev lo : ℕ
   lo = w.nodes.start
 
-  pub own_fits : Fits n c
-  own_fits = let a = some_nodes w.nodes.coded in subst (Fits n) (sym o) (w.fits (end - 1) (omega arith) (omega arith))
+  pub own_fits : {s : Node} → Own s → Fits n s
+  own_fits e =
+      let a = some_nodes w.nodes.coded in
+      subst (Fits n) (get_or_default m (end - 1) Template (Table 0) (omega (arith, w.nodes.long)) ∙ e) (w.fits (end - 1) (omega arith) (omega arith))
 
-  pub own_table : c.kind ≡ 0 → c.number < q + 16
+  pub own_table : (i : ℕ) → Own (Table i) → i < q + 16
   unfolding Uses
-  own_table z = names w (is_table c.number (own ∙ says_table c z) w.nodes.coded) c.number refl
+  own_table i e = names w (is_table i (own_label w.nodes e) w.nodes.coded) i refl
 
-  pub sized_two : (c.kind ≡ 0 → ⊥) → c.kind < 4 → (mid : ℕ) → mid ≡ back (label m) (end - 1) 1
+  pub sized_two : {j : joiners.Joiner} → Own (Join j) → (mid : ℕ) → Starts m (end - 1) mid
       → Sized n m mid k q × Sized n m (end - 1) (k + 1) q × (mid < end)
   unfolding held bindings Uses
-  sized_two z l mid s =
-      let v = halves (stored_joiner (c.kind - 1)) mid (own ∙ says_join c z l) s w.nodes.coded in
+  sized_two e mid s =
+      let v = halves _ mid (own_label w.nodes e) (mid_is s) w.nodes.coded in
       let sets = ap held v.is in
       let more = ap bindings v.is in
       let a = some_nodes v.left in
@@ -81,18 +129,21 @@ module _ {n : Counts} {m : List ℕ} {end k q : ℕ} (w : Sized n m end k q) (c 
         omega arith,
       )
 
-  module _ (four : c.kind ≡ 4) where
+  module _ (e : Own Override) where
     -- the walk back over the second part begins within the nodes
-    pub second_start : (third : ℕ) → third ≡ back (label m) (end - 1) 1 → (4 * third ≤ length m) × (third ≤ 193)
+    pub second_start : (third : ℕ) → Starts m (end - 1) third → (third ≤ length m) × (third ≤ 193)
     second_start third s =
-        let b = some_nodes (thirds (back (label m) third 1) third (own ∙ says_override c four) s refl w.nodes.coded).right in
+        let b = some_nodes (thirds (back (label m) third 1) third (own_label w.nodes e) (mid_is s) refl w.nodes.coded).right in
         (omega (arith, w.nodes.long), omega (arith, w.nodes.few))
 
-    pub sized_three : (second third : ℕ) → third ≡ back (label m) (end - 1) 1 → second ≡ back (label m) third 1
+    pub second_is : (second third : ℕ) → Starts m (end - 1) third → Starts m third second → second ≡ back (label m) third 1
+    second_is second third s i = start_take m (second_start third s).0 i
+
+    pub sized_three : (second third : ℕ) → Starts m (end - 1) third → Starts m third second
         → Sized n m second k q × Sized n m third (k + 1) q × Sized n m (end - 1) (k + 2) q × (second < third) × (third < end)
     unfolding held bindings Uses
     sized_three second third s z =
-        let v = thirds second third (own ∙ says_override c four) s z w.nodes.coded in
+        let v = thirds second third (own_label w.nodes e) (mid_is s) (second_is second third s z) w.nodes.coded in
         let sets = ap held v.is in
         let more = ap bindings v.is in
         let a = some_nodes v.left in
@@ -109,29 +160,27 @@ module _ {n : Counts} {m : List ℕ} {end k q : ℕ} (w : Sized n m end k q) (c 
           omega arith,
         )
 
-  module _ (eight : 8 ≤ c.kind) (mid : ℕ) (s : mid ≡ back (label m) (end - 1) 1) where
-    -- there is room for a binding
-    pub body_room : (mid < end) × (q < 4)
-    unfolding bindings
-    body_room =
-        let v = filled mid (own ∙ says_template c eight) s w.nodes.coded in
-        let b = some_nodes v.filling in
-        (omega arith, omega (arith, w.in_force, ap bindings v.is))
+  pub sized_scope : {c : scopes.Scope} → Own (Scope c) → Sized n m (end - 1) k q
+  unfolding held bindings Uses
+  sized_scope e =
+      let v = scoped _ (own_label w.nodes e) w.nodes.coded in
+      part w v.u lo (end - 1) k q (omega arith) (omega arith) v.part (omega (arith, w.room, ap held v.is))
+      (omega (arith, w.in_force, ap bindings v.is)) (names w v.is)
 
-    -- E, with one binding more in force
-    pub sized_body : (p : ℕ) → p ≡ suc q → Sized n m mid (k + 1) p
-    unfolding held bindings Uses
-    sized_body p e =
-        let v = filled mid (own ∙ says_template c eight) s w.nodes.coded in
-        let b = some_nodes v.filling in
-        let u = names w v.is in
-        part w v.e lo mid (k + 1) p (omega arith) (omega arith) v.body (omega (arith, w.room, ap held v.is))
-        (omega (arith, w.in_force, ap bindings v.is)) (by_table (λ j. Uses v.e j → j < p + 16) (λ x. omega arith) (λ j x. omega (arith, u j (inr x))))
+  pub sized_closure : {R : ℕ} → Own (Closure R) → Sized n m (end - 1) k q
+  unfolding held bindings Uses
+  sized_closure e =
+      let v = closed _ (own_label w.nodes e) w.nodes.coded in
+      part w v.u lo (end - 1) k q (omega arith) (omega arith) v.part (omega (arith, w.room, ap held v.is))
+      (omega (arith, w.in_force, ap bindings v.is)) (names w v.is)
 
-    sized_filling : Sized n m (end - 1) k q
+  module _ (e : Own Template) where
+    -- F
+    pub sized_filling : Sized n m (end - 1) k q
     unfolding held bindings Uses
     sized_filling =
-        let v = filled mid (own ∙ says_template c eight) s w.nodes.coded in
+        let mid : ℕ = back (label m) (end - 1) 1 in
+        let v = filled mid (own_label w.nodes e) refl w.nodes.coded in
         let sets = ap held v.is in
         let more = ap bindings v.is in
         let a = some_nodes v.body in
@@ -139,18 +188,20 @@ module _ {n : Counts} {m : List ℕ} {end k q : ℕ} (w : Sized n m end k q) (c 
         part w v.f mid (end - 1) k q (omega arith) (omega arith) v.filling (omega (arith, w.room, sets)) (omega (arith, w.in_force, more))
         (λ j x. u j (inl x))
 
-  -- what is scoped or closed, and F of a template
-  pub sized_one : 5 ≤ c.kind → Sized n m (end - 1) k q
-  unfolding held bindings Uses
-  sized_one z = go (dec_lt c.kind 7) (dec_lt c.kind 8)
-    where
-      go : Dec (c.kind < 7) → Dec (c.kind < 8) → Sized n m (end - 1) k q
-      go (yes l) d =
-          let v = scoped _ (own ∙ says_scope c z l) w.nodes.coded in
-          part w v.u lo (end - 1) k q (omega arith) (omega arith) v.part (omega (arith, w.room, ap held v.is))
-          (omega (arith, w.in_force, ap bindings v.is)) (names w v.is)
-      go (no h) (yes l) =
-          let v = closed _ (own ∙ says_closure c (omega arith) l) w.nodes.coded in
-          part w v.u lo (end - 1) k q (omega arith) (omega arith) v.part (omega (arith, w.room, ap held v.is))
-          (omega (arith, w.in_force, ap bindings v.is)) (names w v.is)
-      go (no h) (no l) = sized_filling (omega arith) (back (label m) (end - 1) 1) refl
+    -- there is room for a binding
+    pub body_room : (mid : ℕ) → Starts m (end - 1) mid → (mid < end) × (q < 4)
+    unfolding bindings
+    body_room mid s =
+        let v = filled mid (own_label w.nodes e) (mid_is s) w.nodes.coded in
+        let b = some_nodes v.filling in
+        (omega arith, omega (arith, w.in_force, ap bindings v.is))
+
+    -- E, with one binding more in force
+    pub sized_body : (mid : ℕ) → Starts m (end - 1) mid → (p : ℕ) → p ≡ suc q → Sized n m mid (k + 1) p
+    unfolding held bindings Uses
+    sized_body mid s p i =
+        let v = filled mid (own_label w.nodes e) (mid_is s) w.nodes.coded in
+        let b = some_nodes v.filling in
+        let u = names w v.is in
+        part w v.e lo mid (k + 1) p (omega arith) (omega arith) v.body (omega (arith, w.room, ap held v.is))
+        (omega (arith, w.in_force, ap bindings v.is)) (by_table (λ j. Uses v.e j → j < p + 16) (λ x. omega arith) (λ j x. omega (arith, u j (inr x))))

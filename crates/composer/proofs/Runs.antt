@@ -9,11 +9,8 @@ use Rattle.algebra.specs.Lists.{tab}
 use Rattle.algebra.specs.Answer.{Answer, byte, answer_of, known, keep, Joiner, joined, overridden}
 use Rattle.algebra.specs.Rounds.{Clause, used}
 use Rattle.algebra.specs.Algebra.{Tree, table, join, override, scope, closure, template, bind, permits, decided, close, answer, rounds}
-use Rattle.algebra.specs.Nodes.{scope_node, back}
+use Rattle.algebra.specs.Nodes.{table_node, join_node, override_node, scope_node, closure_node, template_node, back}
 use Rattle.algebra.specs.Policy.{Frame, Scope, accesses, in_scope, clauses, model}
-use Rattle.algebra.specs.Stored.{stored_joiner}
-use Rattle.algebra.specs.StoredFrame.{Stands}
-use Rattle.algebra.specs.declared.Counts.{Counts}
 use Rattle.algebra.proofs.Lists.{length_tab, every_cong}
 use Rattle.algebra.proofs.Answer.{byte_small}
 use Rattle.algebra.proofs.Algebra.{permits_cong}
@@ -23,16 +20,11 @@ use Rattle.sets.specs.Sets.{byte_at, answer_at, set_at, put_set, Answers}
 use Rattle.sets.proofs.Bytes.{part_put}
 use Rattle.sets.proofs.Sets.{answer_of_byte, put_set_low, put_set_at, put_set_high, copied}
 use Rattle.closure.specs.Closed.{answers_of, ClosedTo}
-use Rattle.scopes.specs.Scopes.{stored_scope, Names}
-use Rattle.scopes.specs.declared.StoredScope.{StoredScope}
-use Rattle.nodes.specs.Cells.{cell_in, node_of, label}
-use Rattle.nodes.specs.declared.Cell.{Cell}
-use Rattle.nodes.proofs.Says.{says_table, says_join, says_override, says_scope, says_closure, says_template}
-use Rattle.composer.specs.Compose.{Fits}
+use Rattle.nodes.specs.Cells.{label}
+use Rattle.nodes.specs.declared.Node.{Node}
 use Rattle.composer.specs.Run.{Below, Inner, InForce, ClosedAt, Answered, FewRounds, AllAnswered}
 use Rattle.composer.specs.declared.Bound.{Bound}
 use Rattle.composer.specs.declared.Setting.{Setting}
-use Rattle.composer.proofs.Cells.{ScopeIs, scope_is, scope_names}
 use Rattle.composer.proofs.Named.{Holding, still, within}
 
 -- ---- a closure
@@ -150,35 +142,32 @@ module _ (fr : Frame) (lim : ℕ) (T : ℕ → ℕ → Answer) (few : accesses f
 
 -- ---- what a call of the run promises of each tree that ends there
 
--- c is the tree's own node
-module _ (m : List ℕ) (end : ℕ) (c : Cell) (o : c ≡ cell_in m (end - 1)) where
-  own : label m (end - 1) ≡ node_of c
-  own = ap node_of (sym o)
-
-  pub few_two : (mid a b : ℕ) → (c.kind ≡ 0 → ⊥) → c.kind < 4 → mid ≡ back (label m) (end - 1) 1 → FewRounds m mid a → FewRounds m (end - 1) b
+module _ (m : List Node) (end : ℕ) where
+  pub few_two : (j : Joiner) → label m (end - 1) ≡ join_node j → (mid a b : ℕ) → mid ≡ back (label m) (end - 1) 1 → FewRounds m mid a → FewRounds m (end - 1) b
       → FewRounds m end (a + b)
-  few_two mid a b z l s f g e lo en =
-      let v = halves (stored_joiner (c.kind - 1)) mid (own ∙ says_join c z l) s en in
+  few_two j o mid a b s f g e lo en =
+      let v = halves j mid o s en in
       omega (arith, f v.l lo v.left, g v.r mid v.right, some_nodes v.left, some_nodes v.right)
 
-  pub few_three : (second third a b d : ℕ) → c.kind ≡ 4 → third ≡ back (label m) (end - 1) 1 → second ≡ back (label m) third 1
+  pub few_three : label m (end - 1) ≡ override_node → (second third a b d : ℕ) → third ≡ back (label m) (end - 1) 1 → second ≡ back (label m) third 1
       → FewRounds m second a → FewRounds m third b → FewRounds m (end - 1) d → FewRounds m end (a + b + d)
-  few_three second third a b d k s z f g h e lo en =
-      let v = thirds second third (own ∙ says_override c k) s z en in
+  few_three o second third a b d s z f g h e lo en =
+      let v = thirds second third o s z en in
       let x = some_nodes v.left in
       let y = some_nodes v.middle in
       let w = some_nodes v.right in
       omega (arith, f v.p lo v.left, g v.q second v.middle, h v.s third v.right)
 
-  pub few_scope : (a : ℕ) → 5 ≤ c.kind → c.kind < 7 → FewRounds m (end - 1) a → FewRounds m end a
-  few_scope a k l f e lo en = let v = scoped _ (own ∙ says_scope c k l) en in omega (arith, f v.u lo v.part, some_nodes v.part)
+  pub few_scope : (c : Scope) → label m (end - 1) ≡ scope_node c → (a : ℕ) → FewRounds m (end - 1) a → FewRounds m end a
+  few_scope c o a f e lo en = let v = scoped c o en in omega (arith, f v.u lo v.part, some_nodes v.part)
 
-  pub few_closure : (a b : ℕ) → 7 ≤ c.kind → c.kind < 8 → b ≤ 4096 → FewRounds m (end - 1) a → FewRounds m end (a + b)
-  few_closure a b k l h f e lo en = let v = closed _ (own ∙ says_closure c k l) en in omega (arith, f v.u lo v.part, some_nodes v.part)
+  pub few_closure : (R : ℕ) → label m (end - 1) ≡ closure_node R → (a b : ℕ) → b ≤ 4096 → FewRounds m (end - 1) a → FewRounds m end (a + b)
+  few_closure R o a b h f e lo en = let v = closed R o en in omega (arith, f v.u lo v.part, some_nodes v.part)
 
-  pub few_template : (mid a b : ℕ) → 8 ≤ c.kind → mid ≡ back (label m) (end - 1) 1 → FewRounds m (end - 1) a → FewRounds m mid b → FewRounds m end (a + b)
-  few_template mid a b k s f g e lo en =
-      let v = filled mid (own ∙ says_template c k) s en in
+  pub few_template : label m (end - 1) ≡ template_node → (mid a b : ℕ) → mid ≡ back (label m) (end - 1) 1 → FewRounds m (end - 1) a → FewRounds m mid b
+      → FewRounds m end (a + b)
+  few_template o mid a b s f g e lo en =
+      let v = filled mid o s en in
       omega (arith, f v.f mid v.filling, g v.e lo v.body, some_nodes v.filling, some_nodes v.body)
 
   module _ (fr : Frame) (st : Setting) where
@@ -188,37 +177,37 @@ module _ (m : List ℕ) (end : ℕ) (c : Cell) (o : c ≡ cell_in m (end - 1)) w
     abbrev Ran : Bound → ℕ → ℕ → List ℕ → ℕ → List ℕ → Type 0
     Ran bs end i w r w' = AllAnswered fr m end i bs st w r w'
 
-    module _ (bs : Bound) (k : ℕ) (few : st.size ≤ 4096) (is-size : st.size ≡ accesses fr) (room : k < 14) (low : Below k bs) where
+    -- size is how many accesses there are
+    module _ (bs : Bound) (k size : ℕ) (few : size ≤ 4096) (is-size : size ≡ accesses fr) (room : k < 14) (low : Below k bs) where
       few' : accesses fr ≤ 4096
       few' = omega arith
 
-      pub ran_table : (w w' : List ℕ) → c.kind ≡ 0 → 65536 ≤ length w
-          → ((T : ℕ → ℕ → Answer) → InForce st bs st.size w T → w' ≡ put_set k st.size (T c.number) w) → Ran bs end k w 0 w'
-      ran_table w w' z long q T o e lo en =
-          subst (λ e. Answered fr lim T e k w 0 w') (sym (is_table c.number (own ∙ says_table c z) en))
-          (run_table fr lim T few' k room c.number w w' long
-          (q T (subst (λ s. InForce st bs s w T) (sym is-size) o) ∙ ap (λ s. put_set k s (T c.number) w) is-size))
+      pub ran_table : (i : ℕ) → label m (end - 1) ≡ table_node i → (w w' : List ℕ) → 65536 ≤ length w
+          → ((T : ℕ → ℕ → Answer) → InForce st bs size w T → w' ≡ put_set k size (T i) w) → Ran bs end k w 0 w'
+      ran_table i p w w' long q T o e lo en =
+          subst (λ e. Answered fr lim T e k w 0 w') (sym (is_table i p en))
+          (run_table fr lim T few' k room i w w' long
+          (q T (subst (λ s. InForce st bs s w T) (sym is-size) o) ∙ ap (λ s. put_set k s (T i) w) is-size))
 
-      pub ran_two : (mid : ℕ) (w w₁ w₂ w₃ : List ℕ) (a b : ℕ) → (c.kind ≡ 0 → ⊥) → c.kind < 4 → mid ≡ back (label m) (end - 1) 1 → 65536 ≤ length w₂
-          → Ran bs mid k w a w₁ → Ran bs (end - 1) (k + 1) w₁ b w₂
-          → (Answers k st.size w₂ → Answers (k + 1) st.size w₂
-          → w₃ ≡ put_set k st.size (λ x. joined (stored_joiner (c.kind - 1)) (answer_at k w₂ x) (answer_at (k + 1) w₂ x)) w₂) → Ran bs end k w (a + b) w₃
-      ran_two mid w w₁ w₂ w₃ a b z l s long f g q T o e lo en =
-          let j = stored_joiner (c.kind - 1) in
-          let v = halves j mid (own ∙ says_join c z l) s en in
+      pub ran_two : (j : Joiner) → label m (end - 1) ≡ join_node j → (mid : ℕ) (w w₁ w₂ w₃ : List ℕ) (a b : ℕ) → mid ≡ back (label m) (end - 1) 1
+          → 65536 ≤ length w₂ → Ran bs mid k w a w₁ → Ran bs (end - 1) (k + 1) w₁ b w₂
+          → (Answers k size w₂ → Answers (k + 1) size w₂ → w₃ ≡ put_set k size (λ x. joined j (answer_at k w₂ x) (answer_at (k + 1) w₂ x)) w₂)
+          → Ran bs end k w (a + b) w₃
+      ran_two j p mid w w₁ w₂ w₃ a b s long f g q T o e lo en =
+          let v = halves j mid p s en in
           let x = f T o v.l lo v.left in
           let y = g T (still st few' bs k low w w₁ x.below x.beyond T o) v.r mid v.right in
           subst (λ e. Answered fr lim T e k w (a + b) w₃) (sym v.is)
           (run_two fr lim T few' k room j v.l v.r w w₁ w₂ w₃ a b x y long
           (subst (λ s. Answers k s w₂ → Answers (k + 1) s w₂ → w₃ ≡ put_set k s (λ x. joined j (answer_at k w₂ x) (answer_at (k + 1) w₂ x)) w₂) is-size q))
 
-      pub ran_three : (second third : ℕ) (w w₁ w₂ w₃ w₄ : List ℕ) (a b d : ℕ) → c.kind ≡ 4 → third ≡ back (label m) (end - 1) 1
+      pub ran_three : label m (end - 1) ≡ override_node → (second third : ℕ) (w w₁ w₂ w₃ w₄ : List ℕ) (a b d : ℕ) → third ≡ back (label m) (end - 1) 1
           → second ≡ back (label m) third 1 → 65536 ≤ length w₃ → Ran bs second k w a w₁ → Ran bs third (k + 1) w₁ b w₂ → Ran bs (end - 1) (k + 2) w₂ d w₃
-          → (Answers k st.size w₃ → Answers (k + 1) st.size w₃ → Answers (k + 2) st.size w₃
-          → w₄ ≡ put_set k st.size (λ x. overridden (answer_at k w₃ x) (answer_at (k + 1) w₃ x) (answer_at (k + 2) w₃ x)) w₃) → Ran bs end k w (a + b + d) w₄
-      ran_three second third w w₁ w₂ w₃ w₄ a b d z s i long f g h q T o e lo en =
+          → (Answers k size w₃ → Answers (k + 1) size w₃ → Answers (k + 2) size w₃
+          → w₄ ≡ put_set k size (λ x. overridden (answer_at k w₃ x) (answer_at (k + 1) w₃ x) (answer_at (k + 2) w₃ x)) w₃) → Ran bs end k w (a + b + d) w₄
+      ran_three p second third w w₁ w₂ w₃ w₄ a b d s i long f g h q T o e lo en =
           let made : ℕ → List ℕ = λ s. put_set k s (λ x. overridden (answer_at k w₃ x) (answer_at (k + 1) w₃ x) (answer_at (k + 2) w₃ x)) w₃ in
-          let v = thirds second third (own ∙ says_override c z) s i en in
+          let v = thirds second third p s i en in
           let x = f T o v.p lo v.left in
           let o₁ = still st few' bs k low w w₁ x.below x.beyond T o in
           let y = g T o₁ v.q second v.middle in
@@ -228,11 +217,11 @@ module _ (m : List ℕ) (end : ℕ) (c : Cell) (o : c ≡ cell_in m (end - 1)) w
           (subst (λ s. Answers k s w₃ → Answers (k + 1) s w₃ → Answers (k + 2) s w₃ → w₄ ≡ made s) is-size q))
 
       -- F is run first, and then E within the binding of F's set
-      pub ran_template : (bs' : Bound) (mid : ℕ) (w w₁ w₂ w₃ : List ℕ) (a b : ℕ) → 8 ≤ c.kind → mid ≡ back (label m) (end - 1) 1 → Inner k bs bs'
-          → 65536 ≤ length w₂ → Ran bs (end - 1) k w a w₁ → Ran bs' mid (k + 1) w₁ b w₂
-          → w₃ ≡ put (k * 4096) (tab st.size (byte_at (k + 1) w₂)) w₂ → Ran bs end k w (a + b) w₃
-      ran_template bs' mid w w₁ w₂ w₃ a b z s i long f g q T o e lo en =
-          let v = filled mid (own ∙ says_template c z) s en in
+      pub ran_template : label m (end - 1) ≡ template_node → (bs' : Bound) (mid : ℕ) (w w₁ w₂ w₃ : List ℕ) (a b : ℕ) → mid ≡ back (label m) (end - 1) 1
+          → Inner k bs bs' → 65536 ≤ length w₂ → Ran bs (end - 1) k w a w₁ → Ran bs' mid (k + 1) w₁ b w₂
+          → w₃ ≡ put (k * 4096) (tab size (byte_at (k + 1) w₂)) w₂ → Ran bs end k w (a + b) w₃
+      ran_template p bs' mid w w₁ w₂ w₃ a b s i long f g q T o e lo en =
+          let v = filled mid p s en in
           let x = f T o v.f mid v.filling in
           let F : ℕ → Answer = answer (model fr) lim T v.f in
           let y = g (bind F T) (within st few' bs k low w w₁ x.below x.beyond T o bs' F i x.answers) v.e lo v.body in
@@ -241,17 +230,16 @@ module _ (m : List ℕ) (end : ℕ) (c : Cell) (o : c ≡ cell_in m (end - 1)) w
           (subst (λ s. w₃ ≡ put (k * 4096) (tab s (byte_at (k + 1) w₂)) w₂) is-size q))
 
       module _ (w w₁ : List ℕ) (a : ℕ) (long : 65536 ≤ length w₁) (f : Ran bs (end - 1) k w a w₁) where
-        pub ran_closure : (b : ℕ) (w₂ : List ℕ) → 7 ≤ c.kind → c.kind < 8 → ClosedAt fr c.number lim k w₁ b w₂ → Ran bs end k w (a + b) w₂
-        ran_closure b w₂ z l cl T o e lo en =
-            let v = closed c.number (own ∙ says_closure c z l) en in
+        pub ran_closure : (R : ℕ) → label m (end - 1) ≡ closure_node R → (b : ℕ) (w₂ : List ℕ) → ClosedAt fr R lim k w₁ b w₂ → Ran bs end k w (a + b) w₂
+        ran_closure R p b w₂ cl T o e lo en =
+            let v = closed R p en in
             subst (λ e. Answered fr lim T e k w (a + b) w₂) (sym v.is)
-            (run_closure fr lim T few' k room v.u w w₁ a long (f T o v.u lo v.part) c.number b w₂ cl)
+            (run_closure fr lim T few' k room v.u w w₁ a long (f T o v.u lo v.part) R b w₂ cl)
 
-        pub ran_scope : (n : Counts) (t : List ℕ) (sc : StoredScope) (w₂ : List ℕ) → Fits n c → 5 ≤ c.kind → c.kind < 7 → Stands fr n t → ScopeIs c sc
-            → (Names fr (stored_scope sc) → Answers k (accesses fr) w₁
-            → w₂ ≡ put_set k (accesses fr) (λ x. keep (in_scope fr (stored_scope sc) x) (answer_at k w₁ x)) w₁) → Ran bs end k w a w₂
-        ran_scope n t sc w₂ fi z l ok is q T o e lo en =
-            let v = scoped (stored_scope sc) (own ∙ says_scope c z l ∙ ap scope_node (scope_is n c sc fi z l is)) en in
+        pub ran_scope : (c : Scope) → label m (end - 1) ≡ scope_node c → (w₂ : List ℕ)
+            → (Answers k (accesses fr) w₁ → w₂ ≡ put_set k (accesses fr) (λ x. keep (in_scope fr c x) (answer_at k w₁ x)) w₁) → Ran bs end k w a w₂
+        ran_scope c p w₂ q T o e lo en =
+            let v = scoped c p en in
             let d = f T o v.u lo v.part in
-            let r = q (scope_names n c sc fi z l is fr t ok) (all_answers k (answer (model fr) lim T v.u) w₁ d.answers) in
-            subst (λ e. Answered fr lim T e k w a w₂) (sym v.is) (run_scope fr lim T few' k room v.u w w₁ a long d (stored_scope sc) w₂ r)
+            let r = q (all_answers k (answer (model fr) lim T v.u) w₁ d.answers) in
+            subst (λ e. Answered fr lim T e k w a w₂) (sym v.is) (run_scope fr lim T few' k room v.u w w₁ a long d c w₂ r)

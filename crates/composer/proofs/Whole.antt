@@ -7,13 +7,13 @@ use native.Mathlib.Omega.{arith}
 use lib.Dec.{eqb}
 use lib.ListN.{length, get_or, take, drop, length-map, length-drop, get_or-map}
 use lib.Seq.{ext_get_or, get_or-take, get_or-drop, length-take-le}
-use borrow.Author.Tests.{eqb-true, eqb-false}
 use Rattle.algebra.specs.Lists.{any}
 use Rattle.algebra.specs.Answer.{deny, byte, sure}
 use Rattle.algebra.specs.Algebra.{Model, Uses, answer, rounds}
 use Rattle.algebra.specs.Policy.{Table, Policy, Scope, accesses, model, table_at, is_granted, table_answer, policy_answer, answers, policy_rounds, bytes}
 use Rattle.algebra.specs.declared.Counts.{Counts}
-use Rattle.algebra.specs.declared.StoredRule.{StoredRule}
+use Rattle.algebra.specs.declared.Rule.{Rule}
+use Rattle.nodes.specs.declared.Node.{Node}
 use Rattle.algebra.proofs.Algebra.{same_answers, same_rounds}
 use Rattle.algebra.proofs.Bytes.{length_answers, answers_at}
 use Rattle.algebra.proofs.Tables.{answer_here, answer_away}
@@ -22,7 +22,7 @@ use Rattle.composer.specs.Run.{table_in, Answered}
 use Rattle.composer.proofs.Named.{is_here, is_away}
 
 -- a table's answers are those of the data
-table_same : (ts : List Table) (here : List ℕ) (grants : ℕ) (w : List ℕ) (i : ℕ) → TableIs ts here grants w i
+table_same : (ts : List Table) (here : List Bool) (grants : ℕ) (w : List ℕ) (i : ℕ) → TableIs ts here grants w i
     → (x : ℕ) → table_answer ts i x ≡ table_in here grants w i x
 unfolding is_granted
 table_same ts here grants w i is x = go (table_at ts i).here refl
@@ -30,11 +30,11 @@ table_same ts here grants w i is x = go (table_at ts i).here refl
     go : (b : Bool) → (table_at ts i).here ≡ b → table_answer ts i x ≡ table_in here grants w i x
     go true e =
         answer_here ts i x e ∙ ap (λ l. sure (any (eqb x) l)) (is.list e)
-        ∙ sym (is_here i here grants w x (eqb-true (get_or here i 0) 1 (sym is.flag ∙ e)))
-    go false e = answer_away ts i x e ∙ sym (is_away i here grants w x (eqb-false (get_or here i 0) 1 (sym is.flag ∙ e)))
+        ∙ sym (is_here i here grants w x (sym is.flag ∙ e))
+    go false e = answer_away ts i x e ∙ sym (is_away i here grants w x (sym is.flag ∙ e))
 
-module _ (P : Policy) (n : Counts) (w t m : List ℕ) (used : ℕ) (here : List ℕ) (grants : ℕ) (rules : List StoredRule) (many limit : ℕ)
-    (cp : Composes P n w t m used here grants rules many limit) where
+module _ (P : Policy) (n : Counts) (w t : List ℕ) (m : List Node) (here : List Bool) (grants : ℕ) (rules : List Rule) (limit : ℕ)
+    (cp : Composes P n w t m here grants rules limit) where
   pub whole : (r : ℕ) (w' : List ℕ) → length w' ≡ length w → 65536 ≤ length w → accesses P.frame ≤ 4096
       → Answered P.frame limit (table_in here grants w) P.tree 0 w r w' → Composed P w r w'
   unfolding bytes policy_answer policy_rounds

@@ -1,5 +1,5 @@
 -- What the run of a tree asks of its nodes, and what it leaves in working memory. It goes by what the data says of the tables, and knows no policy.
-use Rattle.std.specs.Prelude.{◌≡◌, true, false, List, ℕ, suc, ◌+◌, ◌*◌, ◌-◌, ◌≤◌, ◌<◌, eqb, get_or}
+use Rattle.std.specs.Prelude.{◌≡◌, Bool, true, false, List, ℕ, suc, ◌+◌, ◌*◌, ◌-◌, ◌≤◌, ◌<◌, eqb, get_or}
 use Rattle.algebra.specs.Lists.{any, tab}
 use Rattle.algebra.specs.Answer.{Answer, undecided, byte, sure}
 use Rattle.algebra.specs.Rounds.{used}
@@ -10,15 +10,17 @@ use Rattle.algebra.specs.Grants.{grants_of}
 use Rattle.algebra.specs.declared.Counts.{Counts}
 use Rattle.sets.specs.Bytes.{put}
 use Rattle.sets.specs.Sets.{byte_at, set_at}
-use Rattle.nodes.specs.Cells.{cell_in, label, HasTree}
+use Rattle.nodes.specs.Cells.{label, HasTree}
+use Rattle.nodes.specs.declared.Node.{Node}
+use Rattle.nodes.specs.declared.Node.TheVariants.{Template}
 use Rattle.closure.specs.Closed.{answers_of}
 use Rattle.composer.specs.Compose.{Fits}
 use Rattle.composer.specs.declared.Bound.{Bound}
 use Rattle.composer.specs.declared.Setting.{Setting}
 
--- the answers of table i as the data has it: it is here where its flag is 1, and then it permits what it grants
-unfoldable pub table_in : List ℕ → ℕ → List ℕ → ℕ → ℕ → Answer
-table_in here grants w i x = elim (eqb (get_or here i 0) 1) [ true ↦ sure (any (eqb x) (grants_of 57344 i grants w)) | false ↦ undecided ]
+-- the answers of table i as the data has it: where it is here, it permits what it grants
+unfoldable pub table_in : List Bool → ℕ → List ℕ → ℕ → ℕ → Answer
+table_in here grants w i x = elim (get_or here i false) [ true ↦ sure (any (eqb x) (grants_of 57344 i grants w)) | false ↦ undecided ]
 
 -- ---- the bindings in force
 
@@ -46,12 +48,12 @@ pub record ClosedAt (fr : Frame) (set limit k : ℕ) (w : List ℕ) (rounds : �
 
 -- Before `end` stand the nodes of a tree, their numbers are in their ranges, and its sets have room from set k on. So many bindings are in force outside it:
 -- with its own they are at most four at once, and the numbers after theirs are those of at most sixteen tables.
-pub record Sized (n : Counts) (m : List ℕ) (end k outside : ℕ) : Type 0 where
+pub record Sized (n : Counts) (m : List Node) (end k outside : ℕ) : Type 0 where
   pub nodes : HasTree m end
   pub room : k + held nodes.tree ≤ 14
   pub in_force : outside + bindings nodes.tree ≤ 4
   pub tables : (i : ℕ) → Uses nodes.tree i → i < outside + 16
-  pub fits : (j : ℕ) → nodes.start ≤ j → j < end → Fits n (cell_in m j)
+  pub fits : (j : ℕ) → nodes.start ≤ j → j < end → Fits n (get_or m j Template)
 
 -- What the run of a tree leaves: its answers in set k, its rounds, and the sets below k and the bytes beyond the sets as they were. So a part that is run
 -- later finds the sets of those before it, in whatever order they are run.
@@ -62,10 +64,10 @@ pub record Answered (fr : Frame) (limit : ℕ) (T : ℕ → ℕ → Answer) (t :
   pub beyond : (i : ℕ) → 57344 ≤ i → get_or w' i 0 ≡ get_or w i 0
 
 -- What a run promises of every tree that ends before `end`, of which there is one: its rounds are few,
-abbrev pub FewRounds : List ℕ → ℕ → ℕ → Type 0
+abbrev pub FewRounds : List Node → ℕ → ℕ → Type 0
 FewRounds m end r = (e : Tree Scope) (lo : ℕ) → Encodes (label m) e lo end → r ≤ 4096 * (end - lo)
 
 -- and where the data is that of a frame, its answers come to set k.
-abbrev pub AllAnswered : Frame → List ℕ → ℕ → ℕ → Bound → Setting → List ℕ → ℕ → List ℕ → Type 0
+abbrev pub AllAnswered : Frame → List Node → ℕ → ℕ → Bound → Setting → List ℕ → ℕ → List ℕ → Type 0
 AllAnswered fr m end k b s w r w' =
     (T : ℕ → ℕ → Answer) → InForce s b (accesses fr) w T → (e : Tree Scope) (lo : ℕ) → Encodes (label m) e lo end → Answered fr s.limit T e k w r w'

@@ -1,9 +1,8 @@
 -- Laws of the grants in working memory: sets leave them alone, and a loop that marks one grant a turn.
-use mathlib.Core.Path.{◌≡◌, sym, ap, ◌∙◌}
+use mathlib.Core.Path.{◌≡◌, refl, sym, ap, ◌∙◌}
 use mathlib.Core.Bool.{true, ◌||◌, or-false, or-true}
 use mathlib.Core.List.{List, [], ◌∷◌, ◌++◌}
 use Prim.Native.Nat.{ℕ, ◌+◌, ◌*◌, ◌/◌, ◌%◌, ◌≤◌, ◌<◌}
-use native.Mathlib.Nat.{le_antisymm}
 use native.Mathlib.Decide.{ℕ_discrete}
 use native.Mathlib.Omega.{arith}
 use lib.Dec.{eqb}
@@ -11,22 +10,18 @@ use lib.ListN.{length, get_or, set, length-set}
 use lib.Seq.{get_or-set_same, get_or-set_other}
 use borrow.Author.Tests.{eq-eqb, ne_eqb}
 use Rattle.algebra.specs.Lists.{any, tab, gather, only, upto}
-use Rattle.algebra.specs.Answer.{Answer, deny, permit, byte, sure}
+use Rattle.algebra.specs.Answer.{Answer, permit, byte, sure}
 use Rattle.sets.specs.Bytes.{put}
 use Rattle.sets.specs.Sets.{Room, byte_at, put_set}
 use Rattle.algebra.specs.Grants.{grant_at_lem, grants_of}
-use Rattle.sets.proofs.Sets.{length_put_set, put_set_low, put_set_at, put_set_high, put_set_cong, is_put_set, put_set_twice}
-use Rattle.algebra.proofs.Lists.{any_append, gather_same, gather_more}
+use Rattle.sets.proofs.Sets.{length_put_set, put_set_low, put_set_at, put_set_high, put_set_cong, is_put_set}
+use Rattle.algebra.proofs.Lists.{any_append, gather_more}
 
 -- ---- sets leave the grants alone
 
 module _ (k n : ℕ) (f : ℕ → Answer) (w : List ℕ) (room : Room k n w) where
   pub grant_at_put_set : (i : ℕ) → grant_at_lem 57344 (put_set k n f w) i ≡ grant_at_lem 57344 w i
   grant_at_put_set i = rw (put_set_high k n f w (omega arith) (57344 + 2 * i) (omega arith), put_set_high k n f w (omega arith) (57344 + 2 * i + 1) (omega arith))
-
-  pub grants_of_put_set : (table count : ℕ) → grants_of 57344 table count (put_set k n f w) ≡ grants_of 57344 table count w
-  unfolding grants_of
-  grants_of_put_set table count = gather_same _ _ (upto count) (λ i _. ap (λ g. only (eqb (g / 4096) table) (g % 4096 ∷ [])) (grant_at_put_set i))
 
 -- ---- the answers that the first i grants give a table
 
@@ -101,20 +96,7 @@ module _ (table k n i : ℕ) (w₀ w : List ℕ) (room : Room k n w₀) (at : w 
           get_or-set_other w (k * 4096 + g % 4096) (k * 4096 + y) 2 0 (λ r. e (omega arith)) ∙ ap (λ u. byte_at k u y) at
           ∙ put_set_at k n (given table i w₀) w₀ (omega arith) y b ∙ sym (ap byte (grants_other table i w₀ y (same_table h) (λ r. e (r ∙ sym q))))
 
--- ---- before the first turn and after the last: w₁ is the memory after the set is filled with 0
-
-module _ (table k n : ℕ) (w w₁ : List ℕ) (room : Room k n w) (empty : w₁ ≡ put (k * 4096) (tab n (λ x. 0)) w) where
-  pub empty_length : length w₁ ≡ length w
-  unfolding put_set
-  empty_length = ap length empty ∙ length_put_set k n (λ x. deny) w (omega arith)
-
-  pub empty_given : w₁ ≡ put_set k n (given table 0 w₁) w₁
-  unfolding put_set grants_of
-  empty_given = empty ∙ sym (put_set_twice k n (λ x. deny) (λ x. deny) w (omega arith)) ∙ ap (put_set k n (λ x. deny)) (sym empty)
-
-  pub all_given : (i count : ℕ) (v : List ℕ) → i ≤ count → count ≤ i → v ≡ put_set k n (given table i w₁) w₁ → v ≡ put_set k n (given table count w) w
-  unfolding put_set
-  all_given i count v h h' e =
-      e ∙ ap (λ i. put_set k n (given table i w₁) w₁) (le_antisymm h h') ∙ ap (λ u. put_set k n (given table count u) u) empty
-      ∙ ap (λ l. put_set k n (λ x. sure (any (eqb x) l)) (put_set k n (λ x. deny) w)) (grants_of_put_set k n (λ x. deny) w room table count)
-      ∙ put_set_twice k n (λ x. deny) (given table count w) w (omega arith)
+-- before the first turn
+pub none_given : (table k n : ℕ) (w : List ℕ) → put (k * 4096) (tab n (λ x. 0)) w ≡ put_set k n (given table 0 w) w
+unfolding put_set grants_of
+none_given table k n w = refl

@@ -7,17 +7,13 @@ ghost use Rattle.algebra.specs.Answer.{sure};
 ghost use Rattle.sets.specs.Sets.{put_set, Room};
 ghost use Rattle.algebra.specs.Grants.{grant_at_lem, grants_of};
 
-use sets::{fill, wide};
-
 // The i-th grant, 4096 × table + access.
 fn grant_at(w: &[u8], i: usize) -> usize
     requires { (i < 4096) × (65536 ≤ length w.now) }
     ensures { result ≡ grant_at_lem 57344 w.now i }
 {
     let at = 57344 + 2 * i;
-    let low = wide(w[at]);
-    let high = wide(w[at + 1]);
-    low + 256 * high
+    usize::from(w[at]) + 256 * usize::from(w[at + 1])
 }
 
 // Set k becomes that of a table that is here: what the first `grants` grants give it.
@@ -26,11 +22,10 @@ pub fn fill_here(w: &mut [u8], k: usize, n: usize, table: u8, grants: usize)
     ensures { w.new ≡ put_set k n (λ x. sure (any (eqb x) (grants_of 57344 table grants w.old))) w.old }
 {
     let at = k * 4096;
-    let t = wide(table);
-    fill(w, at, n, 0);
+    w[at..at + n].fill(0);
     for i in 0..grants {
         let g = grant_at(w, i);
-        if g / 4096 == t {
+        if g / 4096 == usize::from(table) {
             let x = g % 4096;
             if x < n {
                 w[at + x] = 2;

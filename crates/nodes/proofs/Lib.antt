@@ -1,4 +1,3 @@
--- The laws of cells: what a cell says by its kind, and one cell more.
-pub mod Says
-pub mod Puts
+-- The laws of the nodes of a slice.
+pub mod Parts
 pub mod Held

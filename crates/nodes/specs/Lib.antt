@@ -1,2 +1,2 @@
--- The definitions that the contracts cite: a node as four numbers of a slice.
+-- The definitions that the contracts cite: what the nodes of a slice mean.
 pub mod Cells

@@ -1,88 +1,54 @@
-// An expression's tree as nodes in a slice of numbers, in the order of the text: four numbers a node, each node after its parts.
+// An expression's tree as a slice of nodes, in the order of the text: each node after its parts.
 #![tactic(auto)]
 
-ghost use Rattle.std.specs.Prelude.{◌≡◌, ℕ, ◌+◌, ◌*◌, ◌≤◌, max, length};
+ghost use Rattle.std.specs.Prelude.{◌≡◌, ℕ, ◌≤◌, length};
 ghost use Rattle.algebra.specs.Algebra.{Tree, held, bindings};
-ghost use Rattle.algebra.specs.Policy.{Scope};
+ghost use Rattle.algebra.specs.Policy as policy;
 ghost use Rattle.algebra.specs.Nodes.{parts, Encodes, back};
-ghost use Rattle.nodes.specs.Cells.{cell_in, with_cell, node_of, label, HasTree};
+ghost use Rattle.nodes.specs.Cells.{node_meant, label, HasTree};
 
-// A node. Kind 0: the table with the number. Kinds 1, 2 and 3: `+`, `&` and `-`. Kind 4: `o`. Kind 5: the scope of a comparison, 1 to 5
-// for `<=`, `>=`, `<`, `>` and `=`, with the member of the sort. Kind 6: the scope of a predicate of the sort. Kind 7: the closure by a rule set.
-// Kind 8: a template `(t:x.E)(F)`, after E's nodes and then F's; within E x is table 0, and table n + 1 is table n outside.
-#[derive(Clone, Copy)]
-pub struct Cell {
-    pub kind: u8,
-    pub sort: u8,
-    pub op: u8,
-    pub number: u8,
+use algebra::{Joiner, Scope};
+
+// A node: a table by its number, `+`, `&` or `-`, `o`, a scope, a closure by a rule set, or a template `(t:x.E)(F)`, after E's nodes and then F's.
+// Within E x is table 0, and table n + 1 is table n outside.
+#[derive(Clone, Copy, PartialEq, Eq)]
+pub enum Node {
+    Table(u8),
+    Join(Joiner),
+    Override,
+    Scope(Scope),
+    Closure(u8),
+    Template,
 }
 
-pub fn cell_at(m: &[u8], j: usize) -> Cell
-    requires { 4 * j + 4 ≤ length m.now }
-    ensures { result ≡ cell_in m.now j }
-{
-    let at = 4 * j;
-    Cell {
-        kind: m[at],
-        sort: m[at + 1],
-        op: m[at + 2],
-        number: m[at + 3],
-    }
-}
-
-pub fn put_cell(m: &mut [u8], j: usize, c: Cell)
-    requires { 4 * j + 4 ≤ length m.old }
-    ensures { m.new ≡ with_cell m.old j c }
-{
-    let at = 4 * j;
-    m[at] = c.kind;
-    m[at + 1] = c.sort;
-    m[at + 2] = c.op;
-    m[at + 3] = c.number;
-}
-
-// How many parts a node has.
-fn parts_of(c: Cell) -> usize
-    ensures { (result ≡ parts (node_of c)) × (result ≤ 3) }
-{
-    if c.kind == 0 {
-        return 0;
-    }
-    if c.kind < 4 {
-        return 2;
-    }
-    if c.kind == 4 {
-        return 3;
-    }
-    if c.kind < 8 {
-        return 1;
-    }
-    2
-}
-
-// Where the tree begins whose last node stands before `end`: back over its nodes, until no part is left to pass.
-pub fn part_start(m: &[u8], end: usize) -> usize
-    requires { (4 * end ≤ length m.now) × (end ≤ 193) }
-    ensures { result ≡ back (label m.now) end 1 }
-{
-    let mut j = end;
-    let mut left = 1;
-    while 0 < left {
-        if j == 0 {
-            return 0;
+impl Node {
+    // How many parts a node has.
+    fn parts(self) -> usize
+        ensures few { result ≤ 3 }
+        ensures value { result ≡ parts (node_meant self) }
+    {
+        match self {
+            Node::Table(_) => 0,
+            Node::Scope(_) | Node::Closure(_) => 1,
+            Node::Join(_) | Node::Template => 2,
+            Node::Override => 3,
         }
-        j -= 1;
-        let c = cell_at(m, j);
-        left = left - 1 + parts_of(c);
     }
-    j
 }
 
-fn larger(x: usize, y: usize) -> usize
-    ensures { result ≡ max x y }
+// Where the tree begins whose own node is the last: back over its nodes, until no part is left to pass.
+pub fn part_start(nodes: &[Node]) -> usize
+    requires { length nodes.now ≤ 193 }
+    ensures { result ≡ back (label nodes.now) (length nodes.now) 1 }
 {
-    if x < y { y } else { x }
+    let mut left = 1;
+    for j in (0..nodes.len()).rev() {
+        left = left - 1 + nodes[j].parts();
+        if left == 0 {
+            return j;
+        }
+    }
+    0
 }
 
 // Where a tree begins, how many sets it holds, and how many bindings are in force at once.
@@ -93,48 +59,47 @@ pub struct Counted {
     pub bindings: usize,
 }
 
-// The tree whose last node stands before `end`: from the last part to the first, since each begins where the one before it ends.
-pub fn sets_held(m: &[u8], end: usize) -> Counted
-    requires { HasTree m.now end }
-    ensures { (t : Tree Scope) (lo : ℕ) → Encodes (label m.now) t lo end
+// The tree whose own node is the last: from the last part to the first, since each begins where the one before it ends.
+pub fn sets_held(nodes: &[Node]) -> Counted
+    requires { HasTree nodes.now (length nodes.now) }
+    ensures { (t : Tree policy.Scope) (lo : ℕ) → Encodes (label nodes.now) t lo (length nodes.now)
         → (result.start ≡ lo) × (result.sets ≡ held t) × (result.bindings ≡ bindings t) }
 {
-    let own = end - 1;
-    let c = cell_at(m, own);
-    if c.kind == 0 {
-        return Counted {
+    let own = nodes.len() - 1;
+    match nodes[own] {
+        Node::Table(_) => Counted {
             start: own,
             sets: 1,
             bindings: 0,
-        };
-    }
-    if c.kind < 4 {
-        let r = sets_held(m, own);
-        let l = sets_held(m, r.start);
-        return Counted {
-            start: l.start,
-            sets: larger(l.sets, 1 + r.sets),
-            bindings: larger(l.bindings, r.bindings),
-        };
-    }
-    if c.kind == 4 {
-        let s = sets_held(m, own);
-        let q = sets_held(m, s.start);
-        let p = sets_held(m, q.start);
-        return Counted {
-            start: p.start,
-            sets: larger(p.sets, larger(1 + q.sets, 2 + s.sets)),
-            bindings: larger(p.bindings, larger(q.bindings, s.bindings)),
-        };
-    }
-    if c.kind < 8 {
-        return sets_held(m, own);
-    }
-    let f = sets_held(m, own);
-    let e = sets_held(m, f.start);
-    Counted {
-        start: e.start,
-        sets: larger(f.sets, 1 + e.sets),
-        bindings: larger(f.bindings, 1 + e.bindings),
+        },
+        Node::Join(_) => {
+            let r = sets_held(&nodes[..own]);
+            let l = sets_held(&nodes[..r.start]);
+            Counted {
+                start: l.start,
+                sets: l.sets.max(1 + r.sets),
+                bindings: l.bindings.max(r.bindings),
+            }
+        }
+        Node::Override => {
+            let s = sets_held(&nodes[..own]);
+            let q = sets_held(&nodes[..s.start]);
+            let p = sets_held(&nodes[..q.start]);
+            Counted {
+                start: p.start,
+                sets: p.sets.max((1 + q.sets).max(2 + s.sets)),
+                bindings: p.bindings.max(q.bindings.max(s.bindings)),
+            }
+        }
+        Node::Scope(_) | Node::Closure(_) => sets_held(&nodes[..own]),
+        Node::Template => {
+            let f = sets_held(&nodes[..own]);
+            let e = sets_held(&nodes[..f.start]);
+            Counted {
+                start: e.start,
+                sets: f.sets.max(1 + e.sets),
+                bindings: f.bindings.max(1 + e.bindings),
+            }
+        }
     }
 }

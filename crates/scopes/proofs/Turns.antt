@@ -2,7 +2,6 @@
 use mathlib.Core.Path.{◌≡◌, sym, ap, ◌∙◌}
 use Prim.Native.Nat.{ℕ, zero, suc, ◌+◌, ◌*◌, ◌≤◌}
 use native.Mathlib.Nat.{le_antisymm, zero-mul, add-zero, add-suc, suc-mul}
-use native.Mathlib.Numerals.{add-one}
 
 -- what n turns make of s, turn k being the function f k
 abbrev pub turns : {S : Type 0} → ℕ → (ℕ → S → S) → S → S
@@ -10,10 +9,6 @@ turns zero f s = s
 turns (suc n) f s = f n (turns n f s)
 
 module _ {S : Type 0} where
-  -- one turn more
-  pub turns_more : (k : ℕ) (f : ℕ → S → S) (s : S) {w : S} → w ≡ turns k f s → f k w ≡ turns (k + 1) f s
-  turns_more k f s e = ap (f k) e ∙ ap (λ n. turns n f s) (sym (add-one k))
-
   -- the last turn
   pub turns_done : {k n : ℕ} (f : ℕ → S → S) (s : S) {w : S} → k ≤ n → n ≤ k → w ≡ turns k f s → w ≡ turns n f s
   turns_done f s h h' e = e ∙ ap (λ m. turns m f s) (le_antisymm h h')

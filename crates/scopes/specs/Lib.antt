@@ -1,2 +1,2 @@
--- The definitions that the contracts cite: scopes as the code holds them.
+-- The definitions that the contracts cite: what a scope asks.
 pub mod Scopes

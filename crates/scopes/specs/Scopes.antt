@@ -1,22 +1,18 @@
--- Scopes as the code holds them.
-use Rattle.std.specs.Prelude.{true, false, ℕ, ◌≤◌, ◌<◌, eqb}
+-- What a scope asks: numbers in their ranges, and a frame that has what it names.
+use Rattle.std.specs.Prelude.{ℕ, ◌<◌}
 use Rattle.algebra.specs.Sort.{Sort, subject, object, action}
-use Rattle.algebra.specs.Policy.{Frame, Scope, compared, marked, members}
-use Rattle.algebra.specs.Stored.{stored_sort, stored_op}
-use Rattle.scopes.specs.declared.StoredScope.{StoredScope}
+use Rattle.algebra.specs.Policy.{Frame, compared, marked, members}
+use Rattle.algebra.specs.Policy as policy
+use Rattle.algebra.specs.declared.Scope.{Scope}
+use Rattle.algebra.specs.declared.Scope.TheVariants.{Compared, Marked}
 
-unfoldable pub stored_scope : StoredScope → Scope
-stored_scope c = elim (eqb c.kind 6) [ true ↦ marked (stored_sort c.sort) c.x | false ↦ compared (stored_sort c.sort) (stored_op c.kind) c.x ]
-
--- the codes of a scope are those of `StoredScope`
-pub record Coded (c : StoredScope) : Type 0 where
-  pub some_kind : 1 ≤ c.kind
-  pub last_kind : c.kind ≤ 6
-  pub last_sort : c.sort ≤ 2
-  pub small : c.x < 64
+-- the number of its member, or of its predicate, is one of 64
+abbrev pub Small : Scope → Type 0
+Small (Compared s c m) = m < 64
+Small (Marked s p) = p < 64
 
 -- a scope names a member of its sort, or one of sixteen predicates
-unfoldable pub Names : Frame → Scope → Type 0
+unfoldable pub Names : Frame → policy.Scope → Type 0
 Names fr (compared σ op m) = m < members fr σ
 Names fr (marked σ p) = p < 16
 

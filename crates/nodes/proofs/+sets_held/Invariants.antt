@@ -1,5 +1,6 @@
--- `nodes::sets_held` meets its contract. It calls itself on the parts of a tree; its measure is where the tree ends.
+-- Each part of a tree has fewer nodes.
+use lib.ListN.{length}
 use Rattle.nodes.proofs.+sets_held.Given as goal
 
 abbrev pub decreases-sets_held : goal.decreases-sets_held
-decreases-sets_held l = l.end
+decreases-sets_held l = length l.nodes.now

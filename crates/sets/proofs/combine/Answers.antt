@@ -2,7 +2,7 @@
 use mathlib.Core.Path.{refl, ap₂, ◌∙◌}
 use lib.ListN.{length-set}
 use Rattle.algebra.specs.Answer.{byte, answer_of, joined}
-use Rattle.algebra.specs.Stored.{stored_joiner}
+use Rattle.algebra.specs.Meant.{joiner_meant}
 use Rattle.sets.proofs.Sets.{put_set_none, put_set_more, put_set_done, operated, reads_first, reads_second}
 use native.Mathlib.Omega.{arith}
 use Rattle.sets.proofs.combine.Goals as goal
@@ -21,7 +21,7 @@ loop-x-preserved c =
           let v = reads_second a.k a.n l.x _ a.w.now l.w e (omega arith) (omega arith) (omega arith) in
           put_set_more a.k l.x (operated a.op a.k a.w.now) a.w.now l.w _ (omega arith) e (c.joined.ensures
           (omega (arith, p l.x (omega arith))) (omega (arith, q l.x (omega arith)))
-          ∙ ap₂ (λ p q. byte (joined (stored_joiner a.op) (answer_of p) (answer_of q))) u v),
+          ∙ ap₂ (λ p q. byte (joined (joiner_meant a.op) (answer_of p) (answer_of q))) u v),
     )
 
 pub returns : goal.returns

@@ -1,35 +1,36 @@
--- `sets::count` meets its contract: after x turns the bytes before x are counted.
+-- `sets::count` meets its contract: after so many turns the bytes before are counted.
 use mathlib.Core.Path.{refl, sym, ap, ◌∙◌}
 use Prim.Native.Nat.{◌+◌}
 use native.Mathlib.Nat.{le_antisymm}
+use native.Mathlib.Omega.{arith}
 use lib.ListN.{take, length-take}
+use lib.Seq.{take-length}
 use Rattle.algebra.specs.Bytes.{tally}
 use Rattle.algebra.proofs.Bytes.{tally_few}
 use Rattle.sets.proofs.Bytes.{tally_hit, tally_miss}
-use native.Mathlib.Omega.{arith}
 use Rattle.sets.proofs.count.Goals as goal
-use Rattle.sets.proofs.count.Goals.{then-s-x, else-s-x}
+use Rattle.sets.proofs.count.Goals.{then-x-b, else-x-b}
 
 pub loop-x-init : goal.loop-x-init
 unfolding tally
-loop-x-init c = (omega arith, refl)
+loop-x-init c = refl
 
 pub overflow_add-found : goal.overflow_add-found
 overflow_add-found c =
-    let args = c.args in
-    omega (arith, tally_few args.b (take c.loop-x.x args.s.now), length-take c.loop-x.x args.s.now)
+    let s = take c.args.n c.args.s.now in
+    omega (arith, tally_few c.args.b (take c.loop-x.x-index s), length-take c.loop-x.x-index s, c.loop-x.invariant)
 
 pub loop-x-preserved : goal.loop-x-preserved
 loop-x-preserved c =
-    let a = c.args in
-    let l = c.loop-x in (
-      omega arith,
-      elim c.if-s-x.branch [
-        | then-s-x w ↦ w.found-is ∙ ap (λ m. m + 1) l.invariant.1 ∙ sym (tally_hit a.b l.x a.s.now (omega arith) w.if-s-x.true)
-        | else-s-x w ↦ w.found-is ∙ l.invariant.1 ∙ sym (tally_miss a.b l.x a.s.now (omega arith) w.if-s-x.false)
-      ],
-    )
+    let l = c.loop-x in
+    let s = take c.args.n c.args.s.now in
+    elim c.if-x-b.branch [
+      | then-x-b w ↦ w.found-is ∙ ap (λ m. m + 1) l.invariant ∙ sym (tally_hit c.args.b l.x-index s (omega arith) w.if-x-b.true)
+      | else-x-b w ↦ w.found-is ∙ l.invariant ∙ sym (tally_miss c.args.b l.x-index s (omega arith) w.if-x-b.false)
+    ]
 
 pub returns : goal.returns
 returns c =
-    c.loop-x.invariant.1 ∙ ap (λ n. tally c.args.b (take n c.args.s.now)) (le_antisymm c.loop-x.invariant.0 c.loop-x-test.false)
+    let l = c.loop-x in
+    let s = take c.args.n c.args.s.now in
+    l.invariant ∙ ap (λ n. tally c.args.b (take n s)) (le_antisymm l.auto.x-index-end c.loop-x-test.false) ∙ ap (tally c.args.b) (take-length s)
