@@ -7,7 +7,7 @@ use native.Mathlib.Omega.{arith}
 use lib.ListN.{length, take}
 use lib.Dec.{leb}
 use borrow.Author.Tests.{le-leb, lt-leb}
-use Rattle.names.specs.Entries.{counts_of_lem}
+use Rattle.names.specs.Entries.{counts_of}
 use Rattle.algebra.specs.Bytes.{cleared, written, tally}
 use Rattle.algebra.specs.Policy.{accesses}
 use Rattle.algebra.specs.StoredFrame.{total}
@@ -18,8 +18,8 @@ use Rattle.reading.specs.declared.Reading.{Reading}
 use Rattle.running.specs.Runs.{grants_part}
 use Rattle.engine.specs.Calls as Calls
 use Rattle.engine.specs.Calls.{compose, composed, composition, unchanged}
-use Rattle.composing.specs.Composition.{composed_of, refusal}
-use Rattle.composing.specs.declared.Composed.{Composed}
+use Rattle.std.specs.Prelude.{Ok}
+use Rattle.composing.specs.Composition.{composed_of}
 use Rattle.running.proofs.AcceptedFile.{policy, total_low, total_is, answers}
 
 -- ---- row 1, and a file that is not accepted
@@ -28,14 +28,14 @@ module _ (f r m : List ℕ) where
   abbrev choice : Bool → Calls.Composed
   choice b = elim b [ true ↦ composed (read_file f) r m | false ↦ unchanged 1 0 0 r m ]
 
-  short : (leb 4096 (length r) && leb 65536 (length m)) ≡ false → (x : Composed) → x ≡ refusal 1 0 0 → composed_of x r m ≡ compose f r m
-  unfolding compose unchanged
-  short h x e = ap (λ (y : Composed). composed_of y r m) e ∙ sym (ap choice h)
+  short : (leb 4096 (length r) && leb 65536 (length m)) ≡ false → unchanged 1 0 0 r m ≡ compose f r m
+  unfolding compose
+  short h = sym (ap choice h)
 
-  pub short_result : length r < 4096 → (x : Composed) → x ≡ refusal 1 0 0 → composed_of x r m ≡ compose f r m
+  pub short_result : length r < 4096 → unchanged 1 0 0 r m ≡ compose f r m
   short_result h = short (ap (λ (b : Bool). b && leb 65536 (length m)) (lt-leb 4096 (length r) h))
 
-  pub short_memory : length m < 65536 → (x : Composed) → x ≡ refusal 1 0 0 → composed_of x r m ≡ compose f r m
+  pub short_memory : length m < 65536 → unchanged 1 0 0 r m ≡ compose f r m
   short_memory h = short (ap (λ (b : Bool). leb 4096 (length r) && b) (lt-leb 65536 (length m) h) ∙ and-false (leb 4096 (length r)))
 
   module _ (room : 4096 ≤ length r) (fits : 65536 ≤ length m) where
@@ -46,14 +46,14 @@ module _ (f r m : List ℕ) where
     unfolding compose
     reads = ap choice both
 
-    pub not_read : (k i p : ℕ) → read_file f ≡ refused k i p → (x : Composed) → x ≡ refusal k i p → composed_of x r (cleared m) ≡ compose f r m
-    unfolding composed unchanged
-    not_read k i p h x e = ap (λ (y : Composed). composed_of y r (cleared m)) e ∙ sym (reads ∙ ap (λ o. composed o r m) h)
+    pub not_read : (k i p : ℕ) → read_file f ≡ refused k i p → unchanged k i p r (cleared m) ≡ compose f r m
+    unfolding composed
+    not_read k i p h = sym (reads ∙ ap (λ o. composed o r m) h)
 
     -- ---- an accepted file, whose grants the reading left in w
 
     module _ (w : List ℕ) (long : length w ≡ length m) (q : Reading) (G : ReadGood f (grants_part w) q)
-        (n : ℕ) (is-count : n ≡ total (counts_of_lem q.state.counts)) where
+        (n : ℕ) (is-count : n ≡ total (counts_of q.state.counts)) where
       few : n ≤ 4096
       few = subst (λ (k : ℕ). k ≤ 4096) (sym is-count) (total_low f w q G)
 
@@ -65,7 +65,7 @@ module _ (f r m : List ℕ) where
 
       pub read_all : (rounds : ℕ) (w' : List ℕ) → Compose.Composed (policy f w q G) w rounds w' → (permits undecided : ℕ) (r' : List ℕ)
           → r' ≡ written (take n w') r → permits ≡ tally 2 (take n w') → undecided ≡ tally 1 (take n w')
-          → composed_of (record { number = 0; line = 0; place = 0; accesses = n; permits = permits; undecided = undecided; rounds = rounds }) r' (cleared m)
+          → composed_of (Ok (record { accesses = n; permits = permits; undecided = undecided; rounds = rounds })) r' (cleared m)
           ≡ compose f r m
       unfolding composed composition
       read_all rounds w' C permits undecided r' er ep eu =

@@ -1,14 +1,16 @@
 -- What Compose returns, with the bytes lent as they are afterwards, as its definition has it.
-use Rattle.std.specs.Prelude.{List, ℕ}
+use Rattle.std.specs.Prelude.{List, ℕ, Result, Ok, Err}
+use Rattle.rows.specs.First.{number_of}
+use Rattle.rows.specs.declared.Refused.{Refused}
 use Rattle.engine.specs.Calls as Calls
 use Rattle.composing.specs.declared.Composed.{Composed}
 
-abbrev pub composed_of : Composed → List ℕ → List ℕ → Calls.Composed
-composed_of r result memory =
+abbrev pub composed_of : Result Composed Refused → List ℕ → List ℕ → Calls.Composed
+composed_of (Ok r) result memory =
     record {
-      number = r.number;
-      line = r.line;
-      place = r.place;
+      number = 0;
+      line = 0;
+      place = 0;
       accesses = r.accesses;
       permits = r.permits;
       undecided = r.undecided;
@@ -16,6 +18,4 @@ composed_of r result memory =
       result = result;
       memory = memory;
     }
-
-abbrev pub refusal : ℕ → ℕ → ℕ → Composed
-refusal k l p = record { number = k; line = l; place = p; accesses = 0; permits = 0; undecided = 0; rounds = 0 }
+composed_of (Err e) result memory = Calls.unchanged (number_of e.refusal) e.line e.place result memory

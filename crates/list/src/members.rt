@@ -1,63 +1,15 @@
-// The names of an accepted file's members: its S lines come first, then its O lines, then its A lines, at most 144 in all.
-ghost use Rattle.std.specs.Prelude.{◌≤◌};
+// The names of an accepted file's members.
+use std::alloc::{AllocError, Global};
 
-use crate::output::byte;
-
-// Notes that a line begins at `i` where the byte before it closes one; answers the number of the line.
-fn noted(lines: &mut [usize; 144], line: usize, before: u8, i: usize) -> usize
-    requires { line ≤ 143 }
-    ensures { result ≤ 143 }
-{
-    if before != b'\n' {
-        return line;
-    }
-    if line == 143 {
-        return line;
-    }
-    lines[line + 1] = i;
-    line + 1
+// The second field of a line.
+fn name(line: &[u8]) -> &[u8] {
+    line.split(|&b| b == b',').nth(1).unwrap_or(line)
 }
 
-// Where each of the first 144 lines begins.
-pub fn starts(f: &[u8]) -> [usize; 144] {
-    let mut lines = [0usize; 144];
-    let mut line = 0;
-    for i in 0..f.len() {
-        line = noted(&mut lines, line, f[i], i + 1);
-    }
-    lines
-}
-
-// Where the i-th line from `first` on begins.
-pub fn line_at(lines: &[usize; 144], first: usize, i: usize) -> usize {
-    if first > 144 {
-        return 0;
-    }
-    if i >= 144 - first {
-        return 0;
-    }
-    lines[first + i]
-}
-
-// A comma and the second field of the line that begins at `start`.
-pub fn name(
-    rt: &(impl Print + Eprint + Alloc),
-    out: &mut [u8; 4096],
-    at: usize,
-    f: &[u8],
-    start: usize,
-) -> usize
-    requires { at ≤ 4097 }
-    ensures { result ≤ 4097 }
-{
-    let mut n = byte(rt, out, at, b',');
-    if start >= f.len() {
-        return n;
-    }
-    let mut i = start + 2;
-    while i < f.len() && f[i] != b',' {
-        n = byte(rt, out, n, f[i]);
-        i += 1;
-    }
-    n
+// The names on the lines of a kind, S, O or A, in the order of the file, which numbers the members.
+pub fn names<'a>(alloc: Global, file: &'a [u8], kind: u8) -> Result<Vec<&'a [u8]>, AllocError> {
+    file.split(|&b| b == b'\n')
+        .filter(|line| line.first() == Some(&kind))
+        .map(name)
+        .collect(alloc)
 }

@@ -22,7 +22,7 @@ check_no f k l p e = ap checked (sym e)
 pub counted : (f w : List ℕ) (r : Reading) (G : ReadGood f w r) (σ : Sort) → members (frame_of G.declared) σ ≡ member_count r.state.counts σ
 unfolding policy_of count
 counted f w r G σ = (file_sane f _ G.outcome).counted σ
-    ∙ count_is f r.state.starts r.state.ends r.state.tags r.state.counts G.declared G.stands.names σ
+    ∙ count_is f r.state.entries r.state.counts G.declared G.stands.names σ
 
 pub check_yes : (f w : List ℕ) (r : Reading) → ReadGood f w r → record {
   number = 0;

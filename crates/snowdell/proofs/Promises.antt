@@ -11,6 +11,8 @@ use Rattle.engine.proofs.Demands.{demands}
 use Rattle.composing.specs.Composition.{composed_of}
 use Rattle.deciding.specs.Decision.{decided_of}
 use Rattle.snowdell.specs.Promised.{Promised, compose_says, decide_says}
+use Rattle.std.specs.Prelude.{Result, Ok, Err}
+use Rattle.rows.specs.declared.Refused.{Refused}
 use Rattle.composing.specs.declared.Composed.{Composed}
 use Rattle.deciding.specs.declared.Decided.{Decided}
 
@@ -30,30 +32,32 @@ promised f says is = record {
 }
 
 -- the equation, and what follows from it
-pub compose_promises : (f r m : List ℕ) (c : Composed) (r' m' : List ℕ) → composed_of c r' m' ≡ compose f r m
+pub compose_promises : (f r m : List ℕ) (c : Result Composed Refused) (r' m' : List ℕ) → composed_of c r' m' ≡ compose f r m
     → (composed_of c r' m' ≡ compose f r m) × Promised f (compose_says c r')
-compose_promises f r m c r' m' e = (e, promised f (compose_says c r') says)
+compose_promises f r m c r' m' e = (e, promised f (compose_says c r') (says c e))
   where
-    says : (x b : ℕ) → compose_says c r' x b → Says f x b
-    says x b h = composed (record {
+    says : (c : Result Composed Refused) → composed_of c r' m' ≡ compose f r m → (x b : ℕ) → compose_says c r' x b → Says f x b
+    says (Ok a) e x b h = composed (record {
       result = r;
       memory = m;
-      is_accepted = ap (λ (y : Calls.Composed). y.number) (sym e) ∙ h.0;
-      is_access = rw⁻¹ (ap (λ (y : Calls.Composed). y.accesses) e) h.1;
-      is_byte = ap (λ (y : Calls.Composed). get_or y.result x 0) (sym e) ∙ h.2;
+      is_accepted = ap (λ (y : Calls.Composed). y.number) (sym e);
+      is_access = rw⁻¹ (ap (λ (y : Calls.Composed). y.accesses) e) h.0;
+      is_byte = ap (λ (y : Calls.Composed). get_or y.result x 0) (sym e) ∙ h.1;
     })
+    says (Err k) e x b h = absurd h
 
-pub decide_promises : (f s o a m : List ℕ) (c : Decided) (m' : List ℕ) → decided_of c m' ≡ decide f s o a m
+pub decide_promises : (f s o a m : List ℕ) (c : Result Decided Refused) (m' : List ℕ) → decided_of c m' ≡ decide f s o a m
     → (decided_of c m' ≡ decide f s o a m) × Promised f (decide_says f s o a c)
-decide_promises f s o a m c m' e = (e, promised f (decide_says f s o a c) says)
+decide_promises f s o a m c m' e = (e, promised f (decide_says f s o a c) (says c e))
   where
-    says : (x b : ℕ) → decide_says f s o a c x b → Says f x b
-    says x b h = decided (record {
+    says : (c : Result Decided Refused) → decided_of c m' ≡ decide f s o a m → (x b : ℕ) → decide_says f s o a c x b → Says f x b
+    says (Ok d) e x b h = decided (record {
       subject_name = s;
       object_name = o;
       action_name = a;
       memory = m;
-      is_accepted = ap (λ (y : Calls.Decided). y.number) (sym e) ∙ h.0;
-      is_access = h.1;
-      is_byte = ap (λ (y : Calls.Decided). y.answer) (sym e) ∙ h.2;
+      is_accepted = ap (λ (y : Calls.Decided). y.number) (sym e);
+      is_access = h.0;
+      is_byte = ap (λ (y : Calls.Decided). y.answer) (sym e) ∙ h.1;
     })
+    says (Err k) e x b h = absurd h

@@ -1,8 +1,9 @@
 -- What demands 2 and 3 ask of the answers that one call gives: `says x b` is that it answers b on the access x.
-use Rattle.std.specs.Prelude.{◌≡◌, ◌↔◌, Bool, true, List, ℕ, ◌≤◌, ◌<◌, get_or}
+use Rattle.std.specs.Prelude.{◌≡◌, ◌↔◌, Bool, true, List, ℕ, ◌≤◌, ◌<◌, get_or, Result, Ok, Err}
 use Rattle.reader.specs.File.{read_file}
 use Rattle.reader.specs.Later.{LaterFile}
 use Rattle.engine.specs.Demands.{in_set, AllHere, Names, Says}
+use Rattle.rows.specs.declared.Refused.{Refused}
 use Rattle.composing.specs.declared.Composed.{Composed}
 use Rattle.deciding.specs.declared.Decided.{Decided}
 
@@ -25,8 +26,10 @@ pub record Promised (f : List ℕ) (says : ℕ → ℕ → Type 0) : Type 0 wher
   pub deny_stays : (f' : List ℕ) → LaterFile f f' → (x b : ℕ) → says x 0 → Says f' x b → b ≡ 0
 
 -- Compose answers by the bytes of the result, Decide by what it returns, each where it has accepted
-abbrev pub compose_says : Composed → List ℕ → ℕ → ℕ → Type 0
-compose_says r result x b = (r.number ≡ 0) × (x < r.accesses) × (get_or result x 0 ≡ b)
+abbrev pub compose_says : Result Composed Refused → List ℕ → ℕ → ℕ → Type 0
+compose_says (Ok r) result x b = (x < r.accesses) × (get_or result x 0 ≡ b)
+compose_says (Err e) result x b = ⊥
 
-abbrev pub decide_says : List ℕ → List ℕ → List ℕ → List ℕ → Decided → ℕ → ℕ → Type 0
-decide_says f s o a r x b = (r.number ≡ 0) × Names f s o a x × (r.answer ≡ b)
+abbrev pub decide_says : List ℕ → List ℕ → List ℕ → List ℕ → Result Decided Refused → ℕ → ℕ → Type 0
+decide_says f s o a (Ok r) x b = Names f s o a x × (r.answer ≡ b)
+decide_says f s o a (Err e) x b = ⊥

@@ -2,17 +2,19 @@
 // Where the slice is too short for them, nothing is done, and a value is returned that no refusal has.
 #![tactic(auto)]
 
-ghost use Rattle.std.specs.Prelude.{◌≡◌, ◌≤◌, length};
+ghost use Rattle.std.specs.Prelude.{◌≡◌, List, ℕ};
 ghost use Rattle.engine.specs.Calls as Calls;
+ghost use Rattle.rows.specs.First.{number_of};
+ghost use Rattle.snowdell.specs.Returned.{checked_of};
+ghost use Rattle.composing.specs.Composition.{composed_of};
+ghost use Rattle.deciding.specs.Decision.{decided_of};
 ghost use Rattle.snowdell_c.specs.Handed.{handed, returned, version, where_room, check_numbers, compose_numbers, decide_numbers};
 
+use algebra::Counts;
+use composing::Composed;
+use deciding::Decided;
+use rows::Refused;
 use snowdell::{check, compose, decide};
-
-fn wide(x: u8) -> usize
-    ensures { result ≡ x }
-{
-    x as usize
-}
 
 // What a call returns where the slice is too short.
 const NO_ROOM: usize = 256;
@@ -29,19 +31,59 @@ pub extern "C" fn snowdell_version() -> usize
 
 // The numbers go to the first places of the slice, if it has so many.
 fn hand(ns: &[usize], numbers: &mut [usize])
-    requires { length ns.now ≤ 8 }
     ensures { numbers.new ≡ handed ns.now numbers.old }
 {
     let n = ns.len();
-    if numbers.len() < n {
-        return;
-    }
-    for x in 0..n {
-        numbers[x] = ns[x];
+    if n <= numbers.len() {
+        numbers[..n].copy_from_slice(ns);
     }
 }
 
+fn number_of(e: Refused) -> usize
+    ensures { result ≡ number_of e.refusal }
+{
+    usize::from(u8::from(e.refusal))
+}
+
 // number, line, place, subjects, objects, actions
+fn check_numbers(r: Result<Counts, Refused>) -> [usize; 6]
+    ensures { result ≡ check_numbers (checked_of r) }
+{
+    match r {
+        Ok(n) => [
+            0,
+            0,
+            0,
+            usize::from(n.subjects),
+            usize::from(n.objects),
+            usize::from(n.actions),
+        ],
+        Err(e) => [number_of(e), e.line, e.place, 0, 0, 0],
+    }
+}
+
+// number, line, place, N, permits, undecided, rounds
+#[tactic(auto, unfolding(engine::specs::Calls::unchanged))]
+fn compose_numbers(r: Result<Composed, Refused>) -> [usize; 7]
+    ensures { (res w : List ℕ) → result ≡ compose_numbers (composed_of r res w) }
+{
+    match r {
+        Ok(c) => [0, 0, 0, c.accesses, c.permits, c.undecided, c.rounds],
+        Err(e) => [number_of(e), e.line, e.place, 0, 0, 0, 0],
+    }
+}
+
+// number, line, place, answer, rounds
+#[tactic(auto, unfolding(engine::specs::Calls::undecided_by))]
+fn decide_numbers(r: Result<Decided, Refused>) -> [usize; 5]
+    ensures { (w : List ℕ) → result ≡ decide_numbers (decided_of r w) }
+{
+    match r {
+        Ok(d) => [0, 0, 0, usize::from(d.answer), d.rounds],
+        Err(e) => [number_of(e), e.line, e.place, 0, 0],
+    }
+}
+
 #[unsafe(no_mangle)]
 pub extern "C" fn snowdell_check(f: &[u8], numbers: &mut [usize]) -> usize
     ensures value { result ≡ returned (check_numbers (Calls.check f.now)) numbers.old }
@@ -50,21 +92,11 @@ pub extern "C" fn snowdell_check(f: &[u8], numbers: &mut [usize]) -> usize
     if numbers.len() < 6 {
         return NO_ROOM;
     }
-    let r = check(f);
-    let number = wide(r.number);
-    let ns = [
-        number,
-        r.line,
-        r.place,
-        wide(r.subjects),
-        wide(r.objects),
-        wide(r.actions),
-    ];
+    let ns = check_numbers(check(f));
     hand(&ns, numbers);
-    number
+    ns[0]
 }
 
-// number, line, place, N, permits, undecided, rounds
 #[unsafe(no_mangle)]
 pub extern "C" fn snowdell_compose(
     f: &[u8],
@@ -80,22 +112,11 @@ pub extern "C" fn snowdell_compose(
     if numbers.len() < 7 {
         return NO_ROOM;
     }
-    let r = compose(f, res, w);
-    let number = wide(r.number);
-    let ns = [
-        number,
-        r.line,
-        r.place,
-        r.accesses,
-        r.permits,
-        r.undecided,
-        r.rounds,
-    ];
+    let ns = compose_numbers(compose(f, res, w));
     hand(&ns, numbers);
-    number
+    ns[0]
 }
 
-// number, line, place, answer, rounds
 #[unsafe(no_mangle)]
 pub extern "C" fn snowdell_decide<'a>(
     f: &'a [u8],
@@ -113,9 +134,7 @@ pub extern "C" fn snowdell_decide<'a>(
     if short {
         return NO_ROOM;
     }
-    let r = decide(f, s, o, a, w);
-    let number = wide(r.number);
-    let ns = [number, r.line, r.place, wide(r.answer), r.rounds];
+    let ns = decide_numbers(decide(f, s, o, a, w));
     hand(&ns, numbers);
-    number
+    ns[0]
 }

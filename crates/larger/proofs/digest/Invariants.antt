@@ -2,5 +2,5 @@
 use Rattle.std.proofs.Common.{◌<◌}
 use Rattle.larger.proofs.digest.Given as goal
 
-abbrev pub invariant-loop-i : goal.invariant-loop-i
-invariant-loop-i l = l.h < 4294967291
+abbrev pub invariant-loop-b : goal.invariant-loop-b
+invariant-loop-b l = l.h < 4294967291

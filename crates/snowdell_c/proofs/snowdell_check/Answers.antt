@@ -1,15 +1,17 @@
+use mathlib.Core.Path.{ap, ◌∙◌}
+use Rattle.snowdell_c.specs.Handed.{check_numbers}
 use Rattle.snowdell_c.proofs.Handing.{hands_nothing}
-use Rattle.snowdell_c.proofs.Numbers.{returns_no_room, check_hands}
+use Rattle.snowdell_c.proofs.Numbers.{returns_no_room, listed}
 use Rattle.snowdell_c.proofs.snowdell_check.Goals as goal
 
-pub returns-then-numbers-lt6 : goal.returns-then-numbers-lt6
-returns-then-numbers-lt6 c =
-    record {
-      value = returns_no_room _ _ c.if-numbers-lt6.true;
-      numbers_after = hands_nothing _ _ c.if-numbers-lt6.true;
-    }
+pub returns-then-numbers-lt6-clause-value : goal.returns-then-numbers-lt6-clause-value
+returns-then-numbers-lt6-clause-value c = returns_no_room _ _ c.if-numbers-lt6.true
 
-pub returns : goal.returns
-returns c =
-    let h = check_hands _ _ _ _ _ _ _ _ c.if-numbers-lt6.false c.wide-number.ensures c.wide.ensures c.wide-2.ensures c.wide-3.ensures
-    c.check-r.ensures c.hand.ensures in record { value = h.0; numbers_after = h.1 }
+pub returns-then-numbers-lt6-clause-numbers_after : goal.returns-then-numbers-lt6-clause-numbers_after
+returns-then-numbers-lt6-clause-numbers_after c = hands_nothing _ _ c.if-numbers-lt6.true
+
+pub returns-clause-value : goal.returns-clause-value
+returns-clause-value c = (listed _ _ _ _ (c.check_numbers-ns.ensures ∙ ap check_numbers c.check.ensures) c.if-numbers-lt6.false c.hand.ensures).0
+
+pub returns-clause-numbers_after : goal.returns-clause-numbers_after
+returns-clause-numbers_after c = (listed _ _ _ _ (c.check_numbers-ns.ensures ∙ ap check_numbers c.check.ensures) c.if-numbers-lt6.false c.hand.ensures).1

@@ -1,0 +1,2 @@
+-- The law behind the proof of `read_text`.
+pub mod Taken
