@@ -2,22 +2,26 @@
 use mathlib.Core.Path.{◌≡◌, sym, ap, subst, ◌∙◌}
 use mathlib.Core.Bool.{cond}
 use mathlib.Core.List.{List}
+use Rattle.std.specs.Prelude as rust
 use Prim.Native.Nat.{ℕ, ◌+◌, ◌*◌, ◌≤◌, ◌<◌}
 use native.Mathlib.Omega.{arith}
 use lib.ListN.{length, get_or, length-map}
 use Rattle.algebra.specs.Sort.{Sort, subject, object, action}
 use Rattle.algebra.specs.Policy.{Frame, parents, members, is_marked}
-use Rattle.algebra.specs.StoredFrame.{size_of, order_at, order_byte_lem, Stands, parent_of, parents_of, Filled}
+use Rattle.algebra.specs.StoredFrame.{size_of, order_at, order_byte_lem, Stands}
+use Rattle.orders.specs.Orders.{parents_of, Filled}
 use Rattle.algebra.specs.declared.Counts.{Counts}
+use Rattle.algebra.specs.Meant.{found_of}
 use Rattle.sets.specs.Bytes.{put}
 use Rattle.sets.proofs.Bytes.{put_low, put_at}
 use Rattle.composer.specs.Compose.{Listed}
 
-module _ (s o a marks t₀ t₁ t₂ t₃ t : List ℕ) (fs : Filled 0 (parents_of s) t₀ t₁) (fo : Filled 1 (parents_of o) t₁ t₂) (fa : Filled 2 (parents_of a) t₂ t₃)
+module _ (s o a : List (rust.Option ℕ)) (marks t₀ t₁ t₂ t₃ t : List ℕ) (fs : Filled subject (parents_of s) t₀ t₁) (fo : Filled object (parents_of o) t₁ t₂)
+    (fa : Filled action (parents_of a) t₂ t₃)
     (q : t ≡ put 12288 marks t₃) (all : length marks ≡ 1024) (long : length t₃ ≡ 16384) (few-s : length s ≤ 64) (few-o : length o ≤ 64)
     (few-a : length a ≤ 64) where
-  size : (l : List ℕ) → length (parents_of l) ≡ length l
-  size l = length-map l parent_of
+  size : (l : List (rust.Option ℕ)) → length (parents_of l) ≡ length l
+  size l = length-map l found_of
 
   low : (i : ℕ) → i < 12288 → get_or t i 0 ≡ get_or t₃ i 0
   low i h = ap (λ u. get_or u i 0) q ∙ put_low 12288 marks t₃ (omega arith) i h

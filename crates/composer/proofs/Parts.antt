@@ -22,7 +22,6 @@ use Rattle.nodes.proofs.Parts.{coded_take, start_take}
 use Rattle.nodes.proofs.Held.{own_label, slice_length}
 use Rattle.composer.specs.Compose.{Fits}
 use Rattle.composer.specs.Run.{Sized, FewRounds, AllAnswered}
-use Rattle.composer.specs.declared.Bound.{Bound}
 use Rattle.composer.specs.declared.Setting.{Setting}
 use Rattle.algebra.specs.declared.Scope as scopes
 
@@ -82,7 +81,7 @@ module _ {n : Counts} {m : List Node} {end k q : ℕ} (w : Sized n m end k q) wh
   pub few_rounds : (r : ℕ) → FewRounds (take end m) (length (take end m)) r → r ≤ 4096 * 193
   few_rounds r f = few_in_all w r (few_told r f)
 
-  pub all_told : (fr : Frame) (i : ℕ) (b : Bound) (s : Setting) (u : List ℕ) (r : ℕ) (u' : List ℕ)
+  pub all_told : (fr : Frame) (i : ℕ) (b : List ℕ) (s : Setting) (u : List ℕ) (r : ℕ) (u' : List ℕ)
       → AllAnswered fr (take end m) (length (take end m)) i b s u r u' → AllAnswered fr m end i b s u r u'
   all_told fr i b s u r u' f T o e lo en =
       f T o e lo (subst (Encodes (label (take end m)) e lo) (sym (slice_length w.nodes)) (coded_take end m (omega arith) en))

@@ -1,6 +1,6 @@
 -- Laws of a run: what each kind of node makes of the sets, and what the run of a tree leaves by what the runs of its parts leave.
 use mathlib.Core.Path.{◌≡◌, refl, sym, ap, ap₂, subst, ◌∙◌}
-use mathlib.Core.List.{List, ◌++◌}
+use mathlib.Core.List.{List, ◌∷◌, ◌++◌}
 use Prim.Native.Nat.{ℕ, ◌+◌, ◌*◌, ◌-◌, ◌≤◌, ◌<◌}
 use native.Mathlib.Omega.{arith}
 use lib.ListN.{length, get_or, take, drop}
@@ -22,8 +22,7 @@ use Rattle.sets.proofs.Sets.{answer_of_byte, put_set_low, put_set_at, put_set_hi
 use Rattle.closure.specs.Closed.{answers_of, ClosedTo}
 use Rattle.nodes.specs.Cells.{label}
 use Rattle.nodes.specs.declared.Node.{Node}
-use Rattle.composer.specs.Run.{Below, Inner, InForce, ClosedAt, Answered, FewRounds, AllAnswered}
-use Rattle.composer.specs.declared.Bound.{Bound}
+use Rattle.composer.specs.Run.{Below, InForce, ClosedAt, Answered, FewRounds, AllAnswered}
 use Rattle.composer.specs.declared.Setting.{Setting}
 use Rattle.composer.proofs.Named.{Holding, still, within}
 
@@ -174,11 +173,11 @@ module _ (m : List Node) (end : ℕ) where
     abbrev lim : ℕ
     lim = st.limit
 
-    abbrev Ran : Bound → ℕ → ℕ → List ℕ → ℕ → List ℕ → Type 0
+    abbrev Ran : List ℕ → ℕ → ℕ → List ℕ → ℕ → List ℕ → Type 0
     Ran bs end i w r w' = AllAnswered fr m end i bs st w r w'
 
     -- size is how many accesses there are
-    module _ (bs : Bound) (k size : ℕ) (few : size ≤ 4096) (is-size : size ≡ accesses fr) (room : k < 14) (low : Below k bs) where
+    module _ (bs : List ℕ) (k size : ℕ) (few : size ≤ 4096) (is-size : size ≡ accesses fr) (room : k < 14) (low : Below k bs) where
       few' : accesses fr ≤ 4096
       few' = omega arith
 
@@ -217,8 +216,8 @@ module _ (m : List Node) (end : ℕ) where
           (subst (λ s. Answers k s w₃ → Answers (k + 1) s w₃ → Answers (k + 2) s w₃ → w₄ ≡ made s) is-size q))
 
       -- F is run first, and then E within the binding of F's set
-      pub ran_template : label m (end - 1) ≡ template_node → (bs' : Bound) (mid : ℕ) (w w₁ w₂ w₃ : List ℕ) (a b : ℕ) → mid ≡ back (label m) (end - 1) 1
-          → Inner k bs bs' → 65536 ≤ length w₂ → Ran bs (end - 1) k w a w₁ → Ran bs' mid (k + 1) w₁ b w₂
+      pub ran_template : label m (end - 1) ≡ template_node → (bs' : List ℕ) (mid : ℕ) (w w₁ w₂ w₃ : List ℕ) (a b : ℕ) → mid ≡ back (label m) (end - 1) 1
+          → bs' ≡ k ∷ bs → 65536 ≤ length w₂ → Ran bs (end - 1) k w a w₁ → Ran bs' mid (k + 1) w₁ b w₂
           → w₃ ≡ put (k * 4096) (tab size (byte_at (k + 1) w₂)) w₂ → Ran bs end k w (a + b) w₃
       ran_template p bs' mid w w₁ w₂ w₃ a b s i long f g q T o e lo en =
           let v = filled mid p s en in

@@ -1,16 +1,18 @@
 -- When the code's data stands for a policy, and what composing it leaves in working memory.
+use Rattle.std.specs.Prelude as rust
 use Rattle.std.specs.Prelude.{◌≡◌, Bool, true, false, cond, List, ℕ, ◌+◌, ◌*◌, ◌<◌, length, get_or, take, drop}
 use Rattle.algebra.specs.Sort.{Sort}
 use Rattle.algebra.specs.Algebra.{Uses}
 use Rattle.algebra.specs.Nodes.{Encodes}
 use Rattle.algebra.specs.Policy.{Frame, Table, Policy, members, accesses, is_marked, table_at, bytes, policy_rounds}
 use Rattle.algebra.specs.Meant.{sort_meant}
-use Rattle.algebra.specs.StoredFrame.{size_of, parents_of}
+use Rattle.algebra.specs.StoredFrame.{size_of}
 use Rattle.algebra.specs.declared.Counts.{Counts}
 use Rattle.algebra.specs.declared.Rule.{Rule}
 use Rattle.algebra.specs.declared.Scope as scopes
 use Rattle.algebra.specs.declared.Scope.TheVariants.{Compared, Marked}
 use Rattle.algebra.specs.Grants.{grants_of}
+use Rattle.orders.specs.Orders.{parents_of}
 use Rattle.plans.specs.Stored.{Stored}
 use Rattle.nodes.specs.Cells.{label}
 use Rattle.nodes.specs.declared.Node as nodes
@@ -49,9 +51,8 @@ pub record Composed (P : Policy) (w : List ℕ) (rounds : ℕ) (w' : List ℕ) :
   pub all : rounds ≡ policy_rounds P
   pub beyond : drop 57344 w' ≡ drop 57344 w
 
--- The parents and the marks are those of the frame: a byte for each member, 0 where it has no parent, or its parent's number and 1;
--- and for each predicate a row of 64 bytes, 1 where it lists the member.
-pub record Listed (fr : Frame) (subjects objects actions marks : List ℕ) : Type 0 where
+-- The parents and the marks are those of the frame: the parent of each member; and for each predicate a row of 64 bytes, 1 where it lists the member.
+pub record Listed (fr : Frame) (subjects objects actions : List (rust.Option ℕ)) (marks : List ℕ) : Type 0 where
   pub same_subjects : fr.subjects ≡ parents_of subjects
   pub same_objects : fr.objects ≡ parents_of objects
   pub same_actions : fr.actions ≡ parents_of actions

@@ -1,5 +1,5 @@
 -- What the run of a tree asks of its nodes, and what it leaves in working memory. It goes by what the data says of the tables, and knows no policy.
-use Rattle.std.specs.Prelude.{◌≡◌, Bool, true, false, List, ℕ, suc, ◌+◌, ◌*◌, ◌-◌, ◌≤◌, ◌<◌, eqb, get_or}
+use Rattle.std.specs.Prelude.{◌≡◌, Bool, true, false, List, ℕ, ◌+◌, ◌*◌, ◌-◌, ◌≤◌, ◌<◌, eqb, length, get_or}
 use Rattle.algebra.specs.Lists.{any, tab}
 use Rattle.algebra.specs.Answer.{Answer, undecided, byte, sure}
 use Rattle.algebra.specs.Rounds.{used}
@@ -15,7 +15,6 @@ use Rattle.nodes.specs.declared.Node.{Node}
 use Rattle.nodes.specs.declared.Node.TheVariants.{Template}
 use Rattle.closure.specs.Closed.{answers_of}
 use Rattle.composer.specs.Compose.{Fits}
-use Rattle.composer.specs.declared.Bound.{Bound}
 use Rattle.composer.specs.declared.Setting.{Setting}
 
 -- the answers of table i as the data has it: where it is here, it permits what it grants
@@ -24,20 +23,14 @@ table_in here grants w i x = elim (get_or here i false) [ true ↦ sure (any (eq
 
 -- ---- the bindings in force
 
--- their sets are below set k
-abbrev pub Below : ℕ → Bound → Type 0
-Below k b = (n : ℕ) → n < b.count → get_or b.sets n 0 < k
-
--- b' has set k first, and then the sets of b
-pub record Inner (k : ℕ) (b b' : Bound) : Type 0 where
-  pub one_more : b'.count ≡ suc b.count
-  pub first : get_or b'.sets 0 0 ≡ k
-  pub others : (n : ℕ) → n < b.count → get_or b'.sets (suc n) 0 ≡ get_or b.sets n 0
+-- their sets, the innermost first, are below set k
+abbrev pub Below : ℕ → List ℕ → Type 0
+Below k bound = (n : ℕ) → n < length bound → get_or bound n 0 < k
 
 -- T is what the numbers in a tree stand for: the bindings in force, whose answers are in their sets, and after them the tables
-pub record InForce (s : Setting) (b : Bound) (N : ℕ) (w : List ℕ) (T : ℕ → ℕ → Answer) : Type 0 where
-  pub bound : (n : ℕ) → n < b.count → (x : ℕ) → x < N → byte_at (get_or b.sets n 0) w x ≡ byte (T n x)
-  pub table : (n x : ℕ) → x < N → T (b.count + n) x ≡ table_in s.here s.grants w n x
+pub record InForce (s : Setting) (bound : List ℕ) (N : ℕ) (w : List ℕ) (T : ℕ → ℕ → Answer) : Type 0 where
+  pub inner : (n : ℕ) → n < length bound → (x : ℕ) → x < N → byte_at (get_or bound n 0) w x ≡ byte (T n x)
+  pub table : (n x : ℕ) → x < N → T (length bound + n) x ≡ table_in s.here s.grants w n x
 
 -- ---- a run
 
@@ -68,6 +61,6 @@ abbrev pub FewRounds : List Node → ℕ → ℕ → Type 0
 FewRounds m end r = (e : Tree Scope) (lo : ℕ) → Encodes (label m) e lo end → r ≤ 4096 * (end - lo)
 
 -- and where the data is that of a frame, its answers come to set k.
-abbrev pub AllAnswered : Frame → List Node → ℕ → ℕ → Bound → Setting → List ℕ → ℕ → List ℕ → Type 0
+abbrev pub AllAnswered : Frame → List Node → ℕ → ℕ → List ℕ → Setting → List ℕ → ℕ → List ℕ → Type 0
 AllAnswered fr m end k b s w r w' =
     (T : ℕ → ℕ → Answer) → InForce s b (accesses fr) w T → (e : Tree Scope) (lo : ℕ) → Encodes (label m) e lo end → Answered fr s.limit T e k w r w'

@@ -1,27 +1,23 @@
--- Laws of the grants in working memory: sets leave them alone, and a loop that marks one grant a turn.
-use mathlib.Core.Path.{◌≡◌, refl, sym, ap, ◌∙◌}
+-- Laws of the grants in working memory: a loop that marks one grant a turn.
+use mathlib.Core.Path.{◌≡◌, sym, ap, ap₂, ◌∙◌}
 use mathlib.Core.Bool.{true, ◌||◌, or-false, or-true}
 use mathlib.Core.List.{List, [], ◌∷◌, ◌++◌}
 use Prim.Native.Nat.{ℕ, ◌+◌, ◌*◌, ◌/◌, ◌%◌, ◌≤◌, ◌<◌}
 use native.Mathlib.Decide.{ℕ_discrete}
 use native.Mathlib.Omega.{arith}
 use lib.Dec.{eqb}
-use lib.ListN.{length, get_or, set, length-set}
-use lib.Seq.{get_or-set_same, get_or-set_other}
+use lib.ListN.{length, get_or, take, drop, replicate, get_or-replicate}
+use lib.ListN as lists
+use lib.Seq.{get_or-set_same, get_or-set_other, get_or-drop, ext_get_or}
+use borrow.Rule.Slice.PartMut.{put_mid}
 use borrow.Author.Tests.{eq-eqb, ne_eqb}
 use Rattle.algebra.specs.Lists.{any, tab, gather, only, upto}
 use Rattle.algebra.specs.Answer.{Answer, permit, byte, sure}
 use Rattle.sets.specs.Bytes.{put}
-use Rattle.sets.specs.Sets.{Room, byte_at, put_set}
+use Rattle.sets.specs.Sets.{Room, put_set}
 use Rattle.algebra.specs.Grants.{grant_at_lem, grants_of}
-use Rattle.sets.proofs.Sets.{length_put_set, put_set_low, put_set_at, put_set_high, put_set_cong, is_put_set}
-use Rattle.algebra.proofs.Lists.{any_append, gather_more}
-
--- ---- sets leave the grants alone
-
-module _ (k n : ℕ) (f : ℕ → Answer) (w : List ℕ) (room : Room k n w) where
-  pub grant_at_put_set : (i : ℕ) → grant_at_lem 57344 (put_set k n f w) i ≡ grant_at_lem 57344 w i
-  grant_at_put_set i = rw (put_set_high k n f w (omega arith) (57344 + 2 * i) (omega arith), put_set_high k n f w (omega arith) (57344 + 2 * i + 1) (omega arith))
+use Rattle.sets.proofs.Bytes.{low_put}
+use Rattle.algebra.proofs.Lists.{any_append, gather_more, length_tab, get_or_tab}
 
 -- ---- the answers that the first i grants give a table
 
@@ -58,45 +54,51 @@ module _ (table i : ℕ) (w : List ℕ) (x : ℕ) where
       (grants_more, eq-eqb (grant_at_lem 57344 w i / 4096) table h, eq-eqb x (grant_at_lem 57344 w i % 4096) h') (or-true (any (eqb x) (grants_of 57344 table i w))) in
       ap sure e
 
--- ---- one turn: w₀ is the memory where the loop begins, w where the turn does, and g the grant
+-- ---- a set that has what the first i grants give it
 
-module _ (table k n i : ℕ) (w₀ w : List ℕ) (room : Room k n w₀) (at : w ≡ put_set k n (given table i w₀) w₀) (g : ℕ) (read : g ≡ grant_at_lem 57344 w i) where
-  grant_is : g ≡ grant_at_lem 57344 w₀ i
-  grant_is = read ∙ ap (λ u. grant_at_lem 57344 u i) at ∙ grant_at_put_set k n (given table i w₀) w₀ room i
-
-  same_table : g / 4096 ≡ table → grant_at_lem 57344 w₀ i / 4096 ≡ table
-  same_table h = ap (λ g. g / 4096) (sym grant_is) ∙ h
-
-  pub turn_miss : (g / 4096 ≡ table → ⊥) → w ≡ put_set k n (given table (i + 1) w₀) w₀
-  turn_miss h = at ∙ put_set_cong k n _ _ w₀ (λ x b. sym (grants_miss table i w₀ x (λ e. h (ap (λ g. g / 4096) grant_is ∙ e))))
-
-  pub turn_beyond : g / 4096 ≡ table → n ≤ g % 4096 → w ≡ put_set k n (given table (i + 1) w₀) w₀
-  turn_beyond h l =
-      at ∙ put_set_cong k n _ _ w₀ (λ x b. sym (grants_other table i w₀ x (same_table h)
-      (λ e. let q : g % 4096 ≡ grant_at_lem 57344 w₀ i % 4096 = ap (λ g. g % 4096) grant_is in omega arith)))
-
-  pub turn_hit : g / 4096 ≡ table → g % 4096 < n → set w (k * 4096 + g % 4096) 2 ≡ put_set k n (given table (i + 1) w₀) w₀
-  turn_hit h l =
-      let x : ℕ = g % 4096 in
-      let len : length w ≡ length w₀ = ap length at ∙ length_put_set k n (given table i w₀) w₀ (omega arith) in
-      is_put_set k n (given table (i + 1) w₀) w₀ (omega arith) (set w (k * 4096 + x) 2) (length-set w _ 2 ∙ len)
-      (λ j b. get_or-set_other w (k * 4096 + x) j 2 0 (λ e. omega arith) ∙ ap (λ u. get_or u j 0) at ∙ put_set_low k n _ w₀ (omega arith) j b)
-      (λ y b. mid y b (ℕ_discrete y x))
-      (λ j b. get_or-set_other w (k * 4096 + x) j 2 0 (λ e. omega arith) ∙ ap (λ u. get_or u j 0) at ∙ put_set_high k n _ w₀ (omega arith) j b)
-    where
-      q : g % 4096 ≡ grant_at_lem 57344 w₀ i % 4096
-      q = ap (λ g. g % 4096) grant_is
-
-      mid : (y : ℕ) → y < n → Dec (y ≡ g % 4096) → byte_at k (set w (k * 4096 + g % 4096) 2) y ≡ byte (given table (i + 1) w₀ y)
-      mid y b (yes e) =
-          let len : length w ≡ length w₀ = ap length at ∙ length_put_set k n (given table i w₀) w₀ (omega arith) in
-          ap (λ y. byte_at k (set w (k * 4096 + g % 4096) 2) y) e ∙ get_or-set_same w (k * 4096 + g % 4096) 2 0 (omega arith)
-          ∙ sym (ap byte (grants_hit table i w₀ y (same_table h) (e ∙ q)))
-      mid y b (no e) =
-          get_or-set_other w (k * 4096 + g % 4096) (k * 4096 + y) 2 0 (λ r. e (omega arith)) ∙ ap (λ u. byte_at k u y) at
-          ∙ put_set_at k n (given table i w₀) w₀ (omega arith) y b ∙ sym (ap byte (grants_other table i w₀ y (same_table h) (λ r. e (r ∙ sym q))))
+abbrev pub Given : ℕ → ℕ → ℕ → List ℕ → List ℕ → Type 0
+Given table i n w set = (x : ℕ) → x < n → get_or set x 0 ≡ byte (given table i w x)
 
 -- before the first turn
-pub none_given : (table k n : ℕ) (w : List ℕ) → put (k * 4096) (tab n (λ x. 0)) w ≡ put_set k n (given table 0 w) w
-unfolding put_set grants_of
-none_given table k n w = refl
+pub none_given : (table n m : ℕ) (w set : List ℕ) → n ≤ m → set ≡ replicate m 0 → Given table 0 n w set
+unfolding grants_of
+none_given table n m w set few e x h = ap (λ l. get_or l x 0) e ∙ get_or-replicate m x 0 0 (omega arith)
+
+-- one turn: listed is the part of the memory that has the grants, and g the grant
+module _ (table n i : ℕ) (w listed set : List ℕ) (part : listed ≡ drop 57344 w) (at : Given table i n w set) (g : ℕ) (read : g ≡ grant_at_lem 0 listed i) where
+  grant_is : g ≡ grant_at_lem 57344 w i
+  grant_is =
+      let low : 57344 + (0 + 2 * i) ≡ 57344 + 2 * i = omega arith in
+      let high : 57344 + (0 + 2 * i + 1) ≡ 57344 + 2 * i + 1 = omega arith in
+      read ∙ ap (λ l. grant_at_lem 0 l i) part
+      ∙ ap₂ (λ a b. a + 256 * b) (get_or-drop 57344 w (0 + 2 * i) 0 ∙ ap (λ j. get_or w j 0) low)
+      (get_or-drop 57344 w (0 + 2 * i + 1) 0 ∙ ap (λ j. get_or w j 0) high)
+
+  same_table : g / 4096 ≡ table → grant_at_lem 57344 w i / 4096 ≡ table
+  same_table h = ap (λ g. g / 4096) (sym grant_is) ∙ h
+
+  same_access : g % 4096 ≡ grant_at_lem 57344 w i % 4096
+  same_access = ap (λ g. g % 4096) grant_is
+
+  pub turn_miss : (g / 4096 ≡ table → ⊥) → Given table (i + 1) n w set
+  turn_miss h x b = at x b ∙ ap byte (sym (grants_miss table i w x (λ e. h (ap (λ g. g / 4096) grant_is ∙ e))))
+
+  pub turn_beyond : g / 4096 ≡ table → n ≤ g % 4096 → Given table (i + 1) n w set
+  turn_beyond h l x b = at x b ∙ ap byte (sym (grants_other table i w x (same_table h) (λ e. omega (arith, same_access))))
+
+  pub turn_hit : g / 4096 ≡ table → g % 4096 < length set → Given table (i + 1) n w (lists.set set (g % 4096) 2)
+  turn_hit h l x b = go (ℕ_discrete x (g % 4096))
+    where
+      go : Dec (x ≡ g % 4096) → get_or (lists.set set (g % 4096) 2) x 0 ≡ byte (given table (i + 1) w x)
+      go (yes e) = rw e (get_or-set_same set (g % 4096) 2 0 l) ∙ sym (ap byte (grants_hit table i w x (same_table h) (e ∙ same_access)))
+      go (no e) = get_or-set_other set (g % 4096) x 2 0 e ∙ at x b ∙ sym (ap byte (grants_other table i w x (same_table h) (λ r. e (r ∙ sym same_access))))
+
+-- the set is back in its place
+pub set_given : (table k n m i : ℕ) (w set : List ℕ) → Room k n w → length set ≡ m → m ≡ n → Given table i n w set
+    → put_mid (k * 4096) m (take 57344 w) set ++ drop 57344 w ≡ put_set k n (given table i w) w
+unfolding put_set
+set_given table k n m i w set room long is at =
+    let f : ℕ → ℕ = λ x. byte (given table i w x) in
+    low_put (k * 4096) m 57344 set w long (omega arith)
+    ∙ ap (λ bs. put (k * 4096) bs w) (ext_get_or 0 set (tab n f) (long ∙ is ∙ sym (length_tab n f))
+    (λ x h. let l : x < n = omega arith in at x l ∙ sym (get_or_tab n f x 0 l)))

@@ -1,29 +1,31 @@
 -- `sets::replace` meets its contract: after x turns x answers of set k are replaced.
-use mathlib.Core.Path.{refl, ◌∙◌}
-use lib.ListN.{length-set}
-use Rattle.sets.proofs.Sets.{overridden_of, put_set_none, put_set_more, put_set_done, threefold, reads_first, reads_second, reads_third}
+use mathlib.Core.Path.{◌≡◌, ap, ◌∙◌}
 use native.Mathlib.Omega.{arith}
+use Prim.Native.Nat.{◌+◌, ◌*◌}
+use lib.ListN.{get_or}
+use Rattle.sets.proofs.Bytes.{none_written, more_written}
+use Rattle.sets.proofs.Sets.{overridden_of, threefold, reads_set, reads_above, set_back}
 use Rattle.sets.proofs.replace.Goals as goal
 
 pub loop-x-init : goal.loop-x-init
-loop-x-init c = (omega arith, refl, λ p q r. put_set_none _ _ _ (omega arith))
+loop-x-init c = λ p q r. none_written _ _
 
 pub loop-x-preserved : goal.loop-x-preserved
-loop-x-preserved c =
+loop-x-preserved c p q r =
     let a = c.args in
-    let l = c.loop-x in (
-      omega arith,
-      length-set l.w _ _ ∙ l.invariant.1,
-      λ p q r. let e = l.invariant.2 p q r in
-          let u = reads_first a.k a.n l.x _ a.w.now l.w e (omega arith) (omega arith) (omega arith) in
-          let v = reads_second a.k a.n l.x _ a.w.now l.w e (omega arith) (omega arith) (omega arith) in
-          let z = reads_third a.k a.n l.x _ a.w.now l.w e (omega arith) (omega arith) (omega arith) in
-          put_set_more a.k l.x (threefold a.k a.w.now) a.w.now l.w _ (omega arith) e
-          (c.overridden.ensures ∙ overridden_of u v z (p l.x (omega arith)) (q l.x (omega arith)) (r l.x (omega arith))),
-    )
+    let l = c.loop-x in
+    let s = c.split_at_mut-low.ensures in
+    let u = reads_set a.k a.n _ l.x (threefold a.k a.w.now) a.w.now l.first (omega arith) (omega arith) (rw s.front at l.auto.first)
+    (rw s.front at l.invariant p q r) (omega arith) in
+    let third : (a.k + 1) * 4096 + (4096 + l.x) ≡ (a.k + 2) * 4096 + l.x = omega arith in
+    let z = reads_above a.k (4096 + l.x) a.w.now _ s.back ∙ ap (λ i. get_or a.w.now i 0) third in
+    more_written _ _ l.x l.first (l.invariant p q r) _ (omega arith)
+    (c.overridden.ensures ∙ overridden_of u.1 (reads_above a.k l.x a.w.now _ s.back) z (p l.x u.0) (q l.x u.0) (r l.x u.0))
 
 pub returns : goal.returns
-returns c =
-    let loop = c.loop-x in
+returns c p q r =
     let a = c.args in
-    λ p q r. put_set_done a.k loop.x a.n (threefold a.k a.w.now) a.w.now loop.w loop.invariant.0 c.loop-x-test.false (loop.invariant.2 p q r)
+    let l = c.loop-x in
+    let s = c.split_at_mut-low.ensures in
+    rw (s.front, s.back) (set_back a.k a.n _ l.x (threefold a.k a.w.now) a.w.now l.first (omega arith) (omega arith) (rw s.front at l.auto.first)
+    (rw s.front at l.invariant p q r) (omega arith))

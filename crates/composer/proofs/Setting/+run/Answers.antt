@@ -1,5 +1,5 @@
 -- `composer::Setting::run` meets its contract. It calls itself on the parts of a tree, which have fewer nodes.
-use mathlib.Core.Path.{sym, ◌∙◌}
+use mathlib.Core.Path.{sym, ap, ◌∙◌}
 use Prim.Native.Nat.{◌+◌}
 use native.Mathlib.Omega.{arith}
 use lib.ListN.{length}
@@ -43,7 +43,7 @@ returns-in-Table-clause-all_answered t c =
     let s = a.self.now in
     let z = c.requires.sized.0 in
     let size = sym (accesses_total fr s.counts s.table.now st.stands) in
-    ran_table a.nodes.now (length a.nodes.now) fr s a.bound a.k _ s.ready.sized.few size (sized_set z) c.requires.sized.1 c.in-Table.number
+    ran_table a.nodes.now (length a.nodes.now) fr s a.bound.now.items a.k _ s.ready.sized.few size (sized_set z) c.requires.sized.1 c.in-Table.number
     (own_label z.nodes c.in-Table.is) a.w.now c.put_named.new.w c.requires.w_len c.put_named.ensures
 
 -- ---- a join
@@ -64,7 +64,7 @@ pub run-right-requires : goal.run-right-requires
 run-right-requires t c =
     let z = c.requires.sized.0 in
     let f = sized_two z c.in-Join.is c.part_start-mid.result c.part_start-mid.ensures in
-    let low = below_more c.args.k (c.args.k + 1) c.args.bound (omega arith) c.requires.sized.1 in
+    let low = below_more c.args.k (c.args.k + 1) c.args.bound.now.items (omega arith) c.requires.sized.1 in
     (omega (arith, sized_some z, slice_length f.1.nodes), ((sized_take f.1, low), omega (arith, c.requires.w_len, c.run-left.auto.w)))
 
 pub combine-requires : goal.combine-requires
@@ -96,7 +96,7 @@ returns-in-Join-clause-all_answered t c =
     let one = c.run-left in
     let two = c.run-right in
     let size = c.accesses.ensures ∙ sym (accesses_total fr s.counts s.table.now st.stands) in
-    ran_two a.nodes.now (length a.nodes.now) fr s a.bound a.k _ (omega (arith, c.accesses.ensures, s.ready.sized.few)) size (sized_set z)
+    ran_two a.nodes.now (length a.nodes.now) fr s a.bound.now.items a.k _ (omega (arith, c.accesses.ensures, s.ready.sized.few)) size (sized_set z)
     c.requires.sized.1 _ (own_label z.nodes c.in-Join.is) c.part_start-mid.result a.w.now one.new.w two.new.w c.combine.new.w one.result two.result
     (mid_is z c.part_start-mid.ensures)
     (omega (arith, c.requires.w_len, one.auto.w, two.auto.w)) (all_told f.0 fr _ _ s _ _ _ (one.ensures.all_answered fr st))
@@ -150,7 +150,7 @@ run-two-requires t c =
     let m = c.args.nodes.now in
     let third = c.part_start-third.result in
     let f = sized_three z c.in-Override.is c.part_start-second.result third c.part_start-third.ensures c.part_start-second.ensures in
-    let low = below_more c.args.k (c.args.k + 1) c.args.bound (omega arith) c.requires.sized.1 in
+    let low = below_more c.args.k (c.args.k + 1) c.args.bound.now.items (omega arith) c.requires.sized.1 in
     (omega (arith, f.4, slice_length f.1.nodes), ((sized_take f.1, low), omega (arith, c.requires.w_len, c.run-one.auto.w)))
 
 pub run-three-requires : goal.run-three-requires
@@ -159,7 +159,7 @@ run-three-requires t c =
     let m = c.args.nodes.now in
     let third = c.part_start-third.result in
     let f = sized_three z c.in-Override.is c.part_start-second.result third c.part_start-third.ensures c.part_start-second.ensures in
-    let low = below_more c.args.k (c.args.k + 2) c.args.bound (omega arith) c.requires.sized.1 in
+    let low = below_more c.args.k (c.args.k + 2) c.args.bound.now.items (omega arith) c.requires.sized.1 in
     (omega (arith, sized_some z, slice_length f.2.nodes), ((sized_take f.2, low), omega (arith, c.requires.w_len, c.run-one.auto.w, c.run-two.auto.w)))
 
 pub replace-requires : goal.replace-requires
@@ -218,7 +218,7 @@ returns-in-Override-clause-all_answered t c =
     let two = c.run-two in
     let three = c.run-three in
     let size = c.accesses-in-Override.ensures ∙ sym (accesses_total fr s.counts s.table.now st.stands) in
-    ran_three m (length m) fr s a.bound a.k _ (omega (arith, c.accesses-in-Override.ensures, s.ready.sized.few)) size (sized_set z) c.requires.sized.1
+    ran_three m (length m) fr s a.bound.now.items a.k _ (omega (arith, c.accesses-in-Override.ensures, s.ready.sized.few)) size (sized_set z) c.requires.sized.1
     (own_label z.nodes c.in-Override.is) second third a.w.now one.new.w two.new.w three.new.w c.replace.new.w one.result two.result three.result
     (mid_is z c.part_start-third.ensures) (second_is z c.in-Override.is second third c.part_start-third.ensures c.part_start-second.ensures)
     (omega (arith, c.requires.w_len, one.auto.w, two.auto.w, three.auto.w)) (all_told f.0 fr _ _ s _ _ _ (one.ensures.all_answered fr st))
@@ -236,7 +236,7 @@ pub scope-requires-clause-room : goal.scope-requires-clause-room
 scope-requires-clause-room t c =
     let z = c.requires.sized.0 in
     let r = c.args.self.now.ready in
-    ((sized_set z, r.sized.few, omega (arith, c.requires.w_len, c.run-rounds.auto.w)), r.sized, r.table)
+    ((sized_set z, r.sized.few, omega (arith, c.requires.w_len, c.run-rounds.auto.w)), r.sized)
 
 pub scope-requires-clause-small : goal.scope-requires-clause-small
 scope-requires-clause-small t c =
@@ -257,7 +257,7 @@ returns-in-Scope-clause-all_answered t c =
     let f = sized_scope z c.in-Scope.is in
     let part = c.run-rounds in
     let size = sym (accesses_total fr s.counts s.table.now st.stands) in
-    ran_scope a.nodes.now (length a.nodes.now) fr s a.bound a.k _ s.ready.sized.few size (sized_set z) c.requires.sized.1 a.w.now part.new.w part.result
+    ran_scope a.nodes.now (length a.nodes.now) fr s a.bound.now.items a.k _ s.ready.sized.few size (sized_set z) c.requires.sized.1 a.w.now part.new.w part.result
     (omega (arith, c.requires.w_len, part.auto.w)) (all_told f fr _ _ s _ _ _ (part.ensures.all_answered fr st)) _ (own_label z.nodes c.in-Scope.is)
     c.scope.new.w (c.scope.ensures fr st.stands (scope_names s.counts c.in-Scope.c fr s.table.now st.stands (own_fits z c.in-Scope.is)))
 
@@ -295,7 +295,7 @@ returns-in-Closure-clause-all_answered t c =
     let f = sized_closure z c.in-Closure.is in
     let part = c.run-before in
     let size = sym (accesses_total fr s.counts s.table.now st.stands) in
-    ran_closure a.nodes.now (length a.nodes.now) fr s a.bound a.k _ s.ready.sized.few size (sized_set z) c.requires.sized.1 a.w.now part.new.w part.result
+    ran_closure a.nodes.now (length a.nodes.now) fr s a.bound.now.items a.k _ s.ready.sized.few size (sized_set z) c.requires.sized.1 a.w.now part.new.w part.result
     (omega (arith, c.requires.w_len, part.auto.w)) (all_told f fr _ _ s _ _ _ (part.ensures.all_answered fr st)) _ (own_label z.nodes c.in-Closure.is)
     c.close_set-used.result c.close_set-used.new.w (c.close_set-used.ensures.closed fr st)
 
@@ -307,8 +307,8 @@ run-filling-requires t c =
     let f = sized_filling z c.in-Template.is in
     (omega (arith, sized_some z, slice_length f.nodes), ((sized_take f, c.requires.sized.1), c.requires.w_len))
 
-pub with-requires : goal.with-requires
-with-requires t c =
+pub within-requires : goal.within-requires
+within-requires t c =
     let z = c.requires.sized.0 in
     let mid = c.part_start-mid-in-Template.result in
     let s = c.part_start-mid-in-Template.ensures in
@@ -326,8 +326,8 @@ run-body-requires t c =
     let z = c.requires.sized.0 in
     let mid = c.part_start-mid-in-Template.result in
     let s = c.part_start-mid-in-Template.ensures in
-    let e = sized_body z c.in-Template.is mid s c.with.result.count c.with.ensures.one_more in
-    let low = below_inner c.args.k c.args.bound c.with.result c.with.ensures c.requires.sized.1 in (
+    let e = sized_body z c.in-Template.is mid s _ (ap length c.within.ensures) in
+    let low = below_inner c.args.k c.args.bound.now.items c.within.result.items c.within.ensures c.requires.sized.1 in (
       omega (arith, body_room z c.in-Template.is mid s, slice_length e.nodes),
       ((sized_take e, low), omega (arith, c.requires.w_len, c.run-filling.auto.w)),
     )
@@ -337,7 +337,7 @@ copy_set-requires t c =
     let z = c.requires.sized.0 in
     let mid = c.part_start-mid-in-Template.result in
     let s = c.part_start-mid-in-Template.ensures in
-    let e = sized_body z c.in-Template.is mid s c.with.result.count c.with.ensures.one_more in (
+    let e = sized_body z c.in-Template.is mid s _ (ap length c.within.ensures) in (
       (
         sized_set z,
         omega (arith, c.accesses-in-Template.ensures, c.args.self.now.ready.sized.few),
@@ -352,7 +352,7 @@ overflow_add-result-in-Template t c =
     let f = sized_filling z c.in-Template.is in
     let mid = c.part_start-mid-in-Template.result in
     let s = c.part_start-mid-in-Template.ensures in
-    let e = sized_body z c.in-Template.is mid s c.with.result.count c.with.ensures.one_more in
+    let e = sized_body z c.in-Template.is mid s _ (ap length c.within.ensures) in
     omega (arith, few_rounds f c.run-filling.result c.run-filling.ensures.few_rounds, few_rounds e c.run-body.result c.run-body.ensures.few_rounds)
 
 pub returns-in-Template-clause-few_rounds : goal.returns-in-Template-clause-few_rounds
@@ -361,7 +361,7 @@ returns-in-Template-clause-few_rounds t c =
     let f = sized_filling z c.in-Template.is in
     let mid = c.part_start-mid-in-Template.result in
     let s = c.part_start-mid-in-Template.ensures in
-    let e = sized_body z c.in-Template.is mid s c.with.result.count c.with.ensures.one_more in
+    let e = sized_body z c.in-Template.is mid s _ (ap length c.within.ensures) in
     few_template c.args.nodes.now (length c.args.nodes.now) (own_label z.nodes c.in-Template.is) mid c.run-filling.result c.run-body.result (mid_is z s)
     (few_told f c.run-filling.result c.run-filling.ensures.few_rounds) (few_told e c.run-body.result c.run-body.ensures.few_rounds)
 
@@ -373,11 +373,11 @@ returns-in-Template-clause-all_answered t c =
     let mid = c.part_start-mid-in-Template.result in
     let b = c.part_start-mid-in-Template.ensures in
     let f = sized_filling z c.in-Template.is in
-    let e = sized_body z c.in-Template.is mid b c.with.result.count c.with.ensures.one_more in
+    let e = sized_body z c.in-Template.is mid b _ (ap length c.within.ensures) in
     let one = c.run-filling in
     let two = c.run-body in
     let size = c.accesses-in-Template.ensures ∙ sym (accesses_total fr s.counts s.table.now st.stands) in
-    ran_template a.nodes.now (length a.nodes.now) fr s a.bound a.k _ (omega (arith, c.accesses-in-Template.ensures, s.ready.sized.few)) size (sized_set z)
-    c.requires.sized.1 (own_label z.nodes c.in-Template.is) c.with.result mid a.w.now one.new.w two.new.w c.copy_set.new.w one.result two.result (mid_is z b)
-    c.with.ensures (omega (arith, c.requires.w_len, one.auto.w, two.auto.w)) (all_told f fr _ _ s _ _ _ (one.ensures.all_answered fr st))
+    ran_template a.nodes.now (length a.nodes.now) fr s a.bound.now.items a.k _ (omega (arith, c.accesses-in-Template.ensures, s.ready.sized.few)) size (sized_set z)
+    c.requires.sized.1 (own_label z.nodes c.in-Template.is) c.within.result.items mid a.w.now one.new.w two.new.w c.copy_set.new.w one.result two.result (mid_is z b)
+    c.within.ensures (omega (arith, c.requires.w_len, one.auto.w, two.auto.w)) (all_told f fr _ _ s _ _ _ (one.ensures.all_answered fr st))
     (all_told e fr _ _ s _ _ _ (two.ensures.all_answered fr st)) c.copy_set.ensures
