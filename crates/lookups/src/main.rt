@@ -63,7 +63,7 @@ fn look(rt: &impl Print, name: &str, text: &[u8]) -> io::Result<()> {
     let (policy, lines) = text.split_at(policy_end(text));
     let mut w = [0u8; 8192];
     match read_policy(policy, &mut w) {
-        Ok(r) => look_lines(rt, name, &r.state.names(policy), lines),
+        Ok(r) => look_lines(rt, name, &r.state.names, lines),
         Err(e) => println!(rt; "{name},refused,{e}"),
     }
 }

@@ -90,7 +90,7 @@ module _ (names : List (List ℕ)) (n : List ℕ) where
       go (no a) (yes b) = let q : i ≡ length names = omega (arith, last_length) in absurd (f j b (sym (at_old j b) ∙ sym e ∙ rw q at_last))
       go (no a) (no b) = omega (arith, last_length)
 
-  module _ (slots : List ℕ) (I : Indexes slots names) (f : Fresh) (room : length names < 64) where
+  module _ (slots : List ℕ) (I : Indexes slots names) (f : Fresh) (room : length names < 255) where
     module _ (k : ℕ) (F : First slots (slot_of n) k) where
       slots' : List ℕ
       slots' = set slots (after (slot_of n) k) (suc (length names))
@@ -172,7 +172,7 @@ fresh names n ns D m h e =
     (get_or-append names (n ∷ ns) [] m h ∙ e ∙ sym (get_or-append_seam names n ns [])) in
     omega arith
 
-from_indexes : (slots : List ℕ) (names ns : List (List ℕ)) → Indexes slots names → Distinct (names ++ ns) → length names + length ns ≤ 64
+from_indexes : (slots : List ℕ) (names ns : List (List ℕ)) → Indexes slots names → Distinct (names ++ ns) → length names + length ns ≤ 255
     → Indexes (index_from slots (length names) ns) (names ++ ns)
 unfolding index_from
 from_indexes slots names [] I D h = rw append-nil I
@@ -182,12 +182,12 @@ from_indexes slots names (n ∷ ns) I D h =
     (omega (arith, last_length names n)) in
     rw (last_length names n, e) at r
 
-pub indexes : (names : List (List ℕ)) → Distinct names → length names ≤ 64 → Indexes (index names) names
+pub indexes : (names : List (List ℕ)) → Distinct names → length names ≤ 255 → Indexes (index names) names
 unfolding index
 indexes names D h = from_indexes (replicate 256 0) [] names empty_indexes D (omega arith)
 
--- ---- a lookup among distinct names, at most 64
-module _ (names : List (List ℕ)) (D : Distinct names) (few : length names ≤ 64) (n : List ℕ) where
+-- ---- a lookup among distinct names, at most 255
+module _ (names : List (List ℕ)) (D : Distinct names) (few : length names ≤ 255) (n : List ℕ) where
   -- it finds the member that a walk along the names finds
   pub lookup_finds : (look_up names n).member ≡ position (same n) names
   unfolding look_up

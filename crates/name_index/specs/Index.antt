@@ -55,3 +55,8 @@ look_up names n = search (index names) names n
 -- no name stands twice
 abbrev pub Distinct : List (List ℕ) → Type 0
 Distinct names = (i j : ℕ) → i < length names → j < length names → get_or names i [] ≡ get_or names j [] → i ≡ j
+
+-- the slots are the index of some names, which are distinct
+pub record Indexed (slots : List ℕ) (names : List (List ℕ)) : Type 0 where
+  pub made : slots ≡ index names
+  pub distinct : Distinct names

@@ -1,13 +1,17 @@
 // The index of a sort's names: 256 slots, of which a name's is the low eight bits of its FNV-1a value.
 #![tactic(auto)]
 
-ghost use Rattle.std.specs.Prelude.{◌≡◌, ◌+◌, ◌≤◌, ◌<◌, length};
-ghost use Rattle.grammar.specs.Lookup.{same};
+ghost use Rattle.std.specs.Prelude.{◌≡◌, ◌+◌, ◌≤◌, ◌<◌, [], ◌∷◌, ◌++◌};
+ghost use Rattle.arrayvec.specs.ArrayVec.{array_vec_len};
+ghost use Rattle.std.proofs.Math.Option.{none};
+ghost use Rattle.grammar.specs.Lookup.{same, position};
 ghost use Rattle.name_index.specs.Hash.{fnv_step, slot_of};
-ghost use Rattle.name_index.specs.Index.{free_slot, put, search};
-ghost use Rattle.name_index.specs.Parts.{name_at, names_of, looked_of, InText, EachInText, Slots};
+ghost use Rattle.name_index.specs.Index.{free_slot, Indexed};
+ghost use Rattle.name_index.specs.Entries.{names_of, LooksUp};
 
-// How many slots a sort has.
+use arrayvec::ArrayVec;
+
+// How many slots an index has.
 const SLOTS: usize = 256;
 
 const FNV_OFFSET: u32 = 2166136261;
@@ -19,40 +23,35 @@ const LOW_32_BITS: u64 = 4294967296;
 
 const LOW_8_BITS: u32 = 256;
 
-// Where a name stands in its text.
-#[derive(Clone, Copy)]
-pub struct Place {
-    pub from: u16,
-    pub to: u16,
+// A declared name, and what else is held of it.
+#[derive(Clone, Copy, Default)]
+pub struct Entry<'a, T> {
+    pub name: &'a [u8],
+    pub tag: T,
 }
 
-// Where a name stands in its text, and what else is held of it.
-#[derive(Clone, Copy)]
-pub struct Entry {
-    pub place: Place,
-    pub tag: u8,
-}
-
-// The number of a name within its group, and how many slots the search read, the one that ended it included.
+// The number of a name among the members, and how many slots the search read, the one that ended it included.
 #[derive(Clone, Copy)]
 pub struct Lookup {
     pub found: Option<u8>,
     pub read: usize,
 }
 
-// Whether the name stands at this place of the text.
-pub fn is_name(text: &[u8], place: Place, name: &[u8]) -> bool
-    requires { InText text.now place }
-    ensures { result ≡ same name.now (name_at text.now place) }
-{
-    let from = usize::from(place.from);
-    let to = usize::from(place.to);
-    name == &text[from..to]
+// The members of a sort in file order, each with its parent's number, and the index of their names, which are distinct.
+// A slot is 0 where it is free, and a member's number and 1 where it is taken.
+#[derive(Drop)]
+pub struct Members<'a, const N: usize> {
+    pub entries: ArrayVec<Entry<'a, Option<u8>>, N>,
+    pub slots: [u8; SLOTS],
+    pub ghost few: { N ≤ 255 },
+    pub ghost fits: { array_vec_len entries ≤ N },
+    pub ghost indexed: { Indexed slots (names_of entries.items) },
 }
 
 // ---- FNV-1a
 
 // One byte more: the product is taken modulo 2 to the 32.
+#[tactic(auto, using(crate::proofs::Hash::xor_fits), unfolding(crate::specs::Hash::fnv_step))]
 fn fnv_step(h: u32, b: u8) -> u32
     ensures { result ≡ fnv_step h b }
 {
@@ -60,6 +59,7 @@ fn fnv_step(h: u32, b: u8) -> u32
 }
 
 // The slot of a name.
+#[tactic(auto, using(crate::proofs::Hash::hash_first, crate::proofs::Hash::hash_next, crate::proofs::Hash::hash_end))]
 fn slot_of(name: &[u8]) -> usize
     ensures value { result ≡ slot_of name.now }
     ensures low { result < 256 }
@@ -73,36 +73,9 @@ fn slot_of(name: &[u8]) -> usize
 
 // ---- the slots of a sort, and its names
 
-// The member of a group that has the name, and how many slots were read for it.
-pub fn find(text: &[u8], group: &[Entry], slots: &[u8], name: &[u8]) -> Lookup
-    requires group { EachInText text.now group.now }
-    requires slots { Slots slots.now (length group.now) }
-    ensures { looked_of result ≡ search slots.now (names_of text.now group.now) name.now }
-{
-    let mut i = slot_of(name);
-    for read in 1..=SLOTS {
-        let slot = slots[i];
-        if slot == 0 {
-            return Lookup { found: None, read };
-        }
-        let member = slot - 1;
-        if is_name(text, group[usize::from(member)].place, name) {
-            return Lookup {
-                found: Some(member),
-                read,
-            };
-        }
-        i = (i + 1) % SLOTS;
-    }
-    Lookup {
-        found: None,
-        read: SLOTS,
-    }
-}
-
 // The first free slot for a name.
-fn free_slot(slots: &[u8], name: &[u8]) -> usize
-    requires { length slots.now ≡ 256 }
+#[tactic(auto, using(crate::proofs::Walks::freeing_first, crate::proofs::Walks::freeing_found, crate::proofs::Walks::freeing_end))]
+fn free_slot(slots: &[u8; SLOTS], name: &[u8]) -> usize
     ensures value { result ≡ free_slot slots.now name.now }
     ensures low { result < 256 }
 {
@@ -116,12 +89,53 @@ fn free_slot(slots: &[u8], name: &[u8]) -> usize
     free
 }
 
-// Puts in the name of a member.
-pub fn insert(slots: &mut [u8], name: &[u8], member: u8)
-    requires size { length slots.old ≡ 256 }
-    requires few { member < 255 }
-    ensures { slots.new ≡ put slots.old name.now member }
-{
-    let i = free_slot(slots, name);
-    slots[i] = member + 1;
+impl<'a, const N: usize> Members<'a, N> {
+    // Nobody is a member.
+    #[tactic(auto, using(crate::proofs::Walks::none_indexed))]
+    pub fn new() -> Self
+        requires { N ≤ 255 }
+        ensures { result.entries.items ≡ [] }
+    {
+        Members {
+            entries: ArrayVec::new(),
+            slots: [0; SLOTS],
+        }
+    }
+
+    // The member that has the name, and how many slots were read for it.
+    pub fn look(&self, name: &[u8]) -> Lookup
+        ensures { LooksUp (names_of self.now.entries.items) name.now result }
+    {
+        let entries = self.entries.as_slice();
+        let mut i = slot_of(name);
+        for read in 1..=SLOTS {
+            let slot = self.slots[i];
+            if slot == 0 {
+                return Lookup { found: None, read };
+            }
+            let member = slot - 1;
+            if name == entries[usize::from(member)].name {
+                return Lookup {
+                    found: Some(member),
+                    read,
+                };
+            }
+            i = (i + 1) % SLOTS;
+        }
+        Lookup {
+            found: None,
+            read: SLOTS,
+        }
+    }
+
+    // A member more, behind the others, whose name no other has.
+    pub fn add(&mut self, name: &'a [u8], parent: Option<u8>)
+        requires room { array_vec_len self.old.entries < N }
+        requires fresh { position (same name.now) (names_of self.old.entries.items) ≡ none }
+        ensures { self.new.entries.items ≡ self.old.entries.items ++ record { name = name.entry; tag = parent } ∷ [] }
+    {
+        let free = free_slot(&self.slots, name);
+        self.slots[free] = self.entries.len() as u8 + 1;
+        self.entries.push(Entry { name, tag: parent });
+    }
 }

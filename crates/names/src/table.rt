@@ -1,15 +1,22 @@
 // The names that are declared in a file.
-ghost use Rattle.names.specs.Entries.{Sound};
+ghost use Rattle.std.specs.Prelude.{◌≤◌};
+ghost use Rattle.arrayvec.specs.ArrayVec.{array_vec_len};
 
-use crate::NameCounts;
-use name_index::Entry;
+use algebra::Sort;
+use arrayvec::ArrayVec;
+use name_index::{Entry, Members};
 
-// Entries in six groups, of which the counts say how many are used, and the index of each sort's members, 256 slots a sort.
-#[derive(Clone, Copy)]
+// At most 64 subjects and objects, and 16 of each other kind, all in file order: a member with its parent's number, a predicate with its sort,
+// a table with whether its grants are here.
+#[derive(Drop)]
 pub struct Names<'a> {
-    pub file: &'a [u8],
-    pub entries: &'a [Entry],
-    pub slots: &'a [u8],
-    pub counts: NameCounts,
-    pub ghost sound: { Sound file.now entries.now slots.now counts },
+    pub subjects: Members<'a, 64>,
+    pub objects: Members<'a, 64>,
+    pub actions: Members<'a, 16>,
+    pub predicates: ArrayVec<Entry<'a, Sort>, 16>,
+    pub tables: ArrayVec<Entry<'a, bool>, 16>,
+    pub sets: ArrayVec<Entry<'a, ()>, 16>,
+    pub ghost few_predicates: { array_vec_len predicates ≤ 16 },
+    pub ghost few_tables: { array_vec_len tables ≤ 16 },
+    pub ghost few_sets: { array_vec_len sets ≤ 16 },
 }
