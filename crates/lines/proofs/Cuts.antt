@@ -1,56 +1,51 @@
--- Where a piece ends, and what the pieces of a part then are.
-use Prim.Native.Nat.{ℕ, zero, suc, ◌+◌, ◌<◌, ◌≤◌}
-use native.Mathlib.Nat.{add-zero}
+-- Where the first piece of a text ends, and what the pieces of the text are by it.
+use Prim.Native.Nat.{ℕ, zero, suc, ◌+◌, ◌-◌, ◌<◌, ◌≤◌}
+use native.Mathlib.Numerals.{add-one}
 use native.Mathlib.Omega.{arith}
-use mathlib.Core.Path.{◌≡◌, refl, sym, ap, ap₂, ◌∙◌}
+use mathlib.Core.Path.{◌≡◌, refl, ap}
 use mathlib.Core.List.{List, [], ◌∷◌}
-use mathlib.Core.Option.{none, some}
+use mathlib.Core.Option.{Option, none, some, map}
 use mathlib.Core.Bool.{Bool, true, false, cond}
 use lib.ListN.{length, get_or, take, drop}
-use lib.Seq.{slice, slice_empty, length-slice}
+use lib.Seq.{drop-cons, take_all}
 use lib.Dec.{eqb}
 use borrow.Author.Tests.{eq-eqb, ne_eqb}
-use Rattle.reader.specs.Text.{before, pieces, on_first, before_comma, after_comma}
-use Rattle.lines.proofs.Parts.{part_cons, part_take, part_drop}
-
--- ---- before the first separator
+use Rattle.std.proofs.lemmas.List.{drop_all, length-drop}
+use Rattle.reader.specs.Text.{before, pieces, on_first, fields, before_comma, after_comma}
+use Rattle.lines.specs.Fields.{first_field}
 
 module _ (s : ℕ) where
-  before_hit : (b : ℕ) (bs : List ℕ) → b ≡ s → before s (b ∷ bs) ≡ []
+  -- ---- the search for a separator, from place i on
+
+  module _ (l : List ℕ) (i : ℕ) where
+    pub end_hit : i < length l → get_or l i 0 ≡ s → before s (drop i l) ≡ []
+    unfolding before
+    end_hit h e = rw (drop-cons l i 0 h, eq-eqb (get_or l i 0) s e)
+
+    pub end_miss : i < length l → (get_or l i 0 ≡ s → ⊥) → length (before s (drop i l)) ≡ 1 + length (before s (drop (i + 1) l))
+    unfolding before
+    end_miss h e = rw (drop-cons l i 0 h, ne_eqb (get_or l i 0) s e, add-one) (omega arith)
+
+    pub end_none : length l ≤ i → before s (drop i l) ≡ []
+    unfolding before
+    end_none h = rw (drop_all i l h)
+
+  -- ---- what stands before the first separator
+
+  within_case : (t : Bool) (b : ℕ) (bs r : List ℕ) → length r ≤ length bs → length (cond t [] (b ∷ r)) ≤ suc (length bs)
+  within_case true b bs r h = omega arith
+  within_case false b bs r h = omega arith
+
+  pub before_within : (l : List ℕ) → length (before s l) ≤ length l
   unfolding before
-  before_hit b bs e = rw (eq-eqb b s e)
-
-  before_miss : (b : ℕ) (bs : List ℕ) → (b ≡ s → ⊥) → before s (b ∷ bs) ≡ b ∷ before s bs
-  unfolding before
-  before_miss b bs e = rw (ne_eqb b s e)
-
-  module _ (l : List ℕ) (i to : ℕ) where
-    pub end_hit : i < to → to ≤ length l → get_or l i 0 ≡ s → i + length (before s (slice i to l)) ≡ i
-    end_hit h k e = rw (part_cons l i to h k, before_hit (get_or l i 0) (slice (i + 1) to l) e) (add-zero i)
-
-    pub end_miss : i < to → to ≤ length l → (get_or l i 0 ≡ s → ⊥) → i + length (before s (slice i to l)) ≡ i + 1 + length (before s (slice (i + 1) to l))
-    end_miss h k e = rw (part_cons l i to h k, before_miss (get_or l i 0) (slice (i + 1) to l) e) (omega arith)
-
-  pub end_none : (l : List ℕ) (to : ℕ) → to + length (before s (slice to to l)) ≡ to
-  unfolding before
-  end_none l to = rw (slice_empty to l) (add-zero to)
-
-  -- ---- the pieces, by the list alone
-
-  before_le_case : (t : Bool) (b : ℕ) (bs r : List ℕ) → length r ≤ length bs → length (cond t [] (b ∷ r)) ≤ suc (length bs)
-  before_le_case true b bs r h = omega arith
-  before_le_case false b bs r h = omega arith
-
-  before_le : (l : List ℕ) → length (before s l) ≤ length l
-  unfolding before
-  before_le [] = omega arith
-  before_le (b ∷ bs) = before_le_case (eqb b s) b bs (before s bs) (before_le bs)
+  before_within [] = omega arith
+  before_within (b ∷ bs) = within_case (eqb b s) b bs (before s bs) (before_within bs)
 
   takes_case : (t : Bool) (b : ℕ) (bs r : List ℕ) → take (length r) bs ≡ r → take (length (cond t [] (b ∷ r))) (b ∷ bs) ≡ cond t [] (b ∷ r)
   takes_case true b bs r ih = refl
   takes_case false b bs r ih = ap (λ (t : List ℕ). b ∷ t) ih
 
-  before_takes : (l : List ℕ) → take (length (before s l)) l ≡ before s l
+  pub before_takes : (l : List ℕ) → take (length (before s l)) l ≡ before s l
   unfolding before
   before_takes [] = refl
   before_takes (b ∷ bs) = takes_case (eqb b s) b bs (before s bs) (before_takes bs)
@@ -66,6 +61,7 @@ module _ (s : ℕ) where
   before_stops (b ∷ bs) zero h e = rw (eq-eqb b s e) (omega arith)
   before_stops (b ∷ bs) (suc k) h e = stops_case (eqb b s) b k (before s bs) (before_stops bs k (omega arith) e)
 
+  -- where there is a separator, the first piece is what stands before it, and the others are those of what follows it
   module _ (last : List (List ℕ)) where
     more_case : (t : Bool) (b : ℕ) (bs r : List ℕ)
         → (length r < length bs → pieces last s bs ≡ r ∷ pieces last s (drop (suc (length r)) bs))
@@ -75,60 +71,13 @@ module _ (s : ℕ) where
     more_case true b bs r ih h = refl
     more_case false b bs r ih h = rw (ih (omega arith))
 
-    more : (l : List ℕ) → length (before s l) < length l → pieces last s l ≡ before s l ∷ pieces last s (drop (suc (length (before s l))) l)
+    pieces_more : (l : List ℕ) → length (before s l) < length l → pieces last s l ≡ before s l ∷ pieces last s (drop (suc (length (before s l))) l)
     unfolding before pieces
-    more [] h = absurd (omega arith)
-    more (b ∷ bs) h = more_case (eqb b s) b bs (before s bs) (more bs) h
+    pieces_more [] h = absurd (omega arith)
+    pieces_more (b ∷ bs) h = more_case (eqb b s) b bs (before s bs) (pieces_more bs) h
 
-  all_case : (t : Bool) (b : ℕ) (bs r : List ℕ)
-      → (length r ≡ length bs → pieces ([] ∷ []) s bs ≡ bs ∷ [])
-      → length (cond t [] (b ∷ r)) ≡ suc (length bs)
-      → cond t ([] ∷ pieces ([] ∷ []) s bs) (on_first b (pieces ([] ∷ []) s bs)) ≡ (b ∷ bs) ∷ []
-  unfolding on_first
-  all_case true b bs r ih h = absurd (omega arith)
-  all_case false b bs r ih h = rw (ih (omega arith))
-
-  all : (l : List ℕ) → length (before s l) ≡ length l → pieces ([] ∷ []) s l ≡ l ∷ []
-  unfolding before pieces
-  all [] h = refl
-  all (b ∷ bs) h = all_case (eqb b s) b bs (before s bs) (all bs) h
-
-  -- there is a piece of any text
-  some_case : (t : Bool) (b : ℕ) (ps : List (List ℕ)) → (x : List ℕ) × ((xs : List (List ℕ)) × (cond t ([] ∷ ps) (on_first b ps) ≡ x ∷ xs))
-  unfolding on_first
-  some_case true b ps = ([], (ps, refl))
-  some_case false b [] = (b ∷ [], ([], refl))
-  some_case false b (p ∷ ps) = (b ∷ p, (ps, refl))
-
-  pub some_piece : (l : List ℕ) → (x : List ℕ) × ((xs : List (List ℕ)) × (pieces ([] ∷ []) s l ≡ x ∷ xs))
-  unfolding pieces
-  some_piece [] = ([], ([], refl))
-  some_piece (b ∷ bs) = some_case (eqb b s) b (pieces ([] ∷ []) s bs)
-
-  -- ---- the pieces, by places of the file: r is where the piece ends
-
-  module _ (l : List ℕ) (from to r : ℕ) (h : from ≤ to) (k : to ≤ length l) (e : r ≡ from + length (before s (slice from to l))) where
-    pub end_within : (from ≤ r) × (r ≤ to)
-    end_within = omega (arith, before_le (slice from to l), length-slice from to l k)
-
-    pub before_is : before s (slice from to l) ≡ slice from r l
-    before_is =
-        sym (before_takes (slice from to l))
-        ∙ part_take l from to (length (before s (slice from to l))) (omega (arith, end_within.1))
-        ∙ ap (λ (n : ℕ). slice from n l) (sym e)
-
-    rest_is : drop (suc (length (before s (slice from to l)))) (slice from to l) ≡ slice (r + 1) to l
-    rest_is =
-        let q : from + suc (length (before s (slice from to l))) ≡ r + 1 = omega arith in
-        part_drop l from to (suc (length (before s (slice from to l)))) ∙ ap (λ (n : ℕ). slice n to l) q
-
-    pub piece_more : (last : List (List ℕ)) → r < to → pieces last s (slice from to l) ≡ slice from r l ∷ pieces last s (slice (r + 1) to l)
-    piece_more last g =
-        more last (slice from to l) (omega (arith, length-slice from to l k))
-        ∙ ap₂ (λ (x y : List ℕ). x ∷ pieces last s y) before_is rest_is
-
-    pub piece_last : r ≡ to → pieces ([] ∷ []) s (slice from to l) ≡ slice from r l ∷ []
-    piece_last g = all (slice from to l) (omega (arith, length-slice from to l k)) ∙ ap (λ (n : ℕ). slice from n l ∷ []) (sym g)
+    pub piece_more : (l : List ℕ) (r : ℕ) → r ≡ length (before s l) → r < length l → pieces last s l ≡ take r l ∷ pieces last s (drop (r + 1) l)
+    piece_more l r e h = rw (e, before_takes l, add-one) (pieces_more l (omega arith))
 
 -- ---- before and after the first comma
 
@@ -154,16 +103,39 @@ unfolding before after_comma
 after_all [] h = refl
 after_all (b ∷ bs) h = none_case (eqb b 44) b bs (before 44 bs) (after_all bs) h
 
-module _ (l : List ℕ) (from to r : ℕ) (h : from ≤ to) (k : to ≤ length l) (e : r ≡ from + length (before 44 (slice from to l))) where
-  pub before_comma_lem : before_comma (slice from to l) ≡ slice from r l
-  unfolding before_comma
-  before_comma_lem = before_is 44 l from to r h k e
+-- the first field, by where it ends
+pub first_none : (l : List ℕ) (end : ℕ) → end ≡ length (before 44 l) → end ≡ length l → first_field l ≡ none
+unfolding first_field
+first_none l end e h = rw (after_all l (omega arith))
 
-  pub after_comma_lem : r < to → after_comma (slice from to l) ≡ some (slice (r + 1) to l)
-  after_comma_lem g = after_more (slice from to l) (omega (arith, length-slice from to l k)) ∙ ap some (rest_is 44 l from to r h k e)
+pub first_some : (l : List ℕ) (end : ℕ) → end ≡ length (before 44 l) → (end ≡ length l → ⊥)
+    → first_field l ≡ some (take end l, take (length l - (end + 1)) (drop (end + 1) l))
+unfolding first_field before_comma
+first_some l end e h =
+    let rest = take_all (length l - (end + 1)) (drop (end + 1) l) (omega (arith, length-drop (end + 1) l)) in
+    let less : length (before 44 l) < length l = omega (arith, before_within 44 l) in
+    rw (rest, add-one, e, after_more l less, before_takes 44 l)
 
-  pub no_comma : r ≡ to → after_comma (slice from to l) ≡ none
-  no_comma g = after_all (slice from to l) (omega (arith, length-slice from to l k))
+-- ---- the fields of a text, by its first field
 
--- where the search for a separator is
-pub ruleset ends = (end_hit, end_miss, end_none)
+abbrev pub fields_by : List ℕ → Option (List ℕ × List ℕ) → List (List ℕ)
+fields_by t none = t ∷ []
+fields_by t (some p) = p.0 ∷ fields p.1
+
+field_case : (b : ℕ) (bs r : List ℕ) (a : Option (List ℕ)) (t : Bool) (fs : List (List ℕ)) → fs ≡ fields_by bs (map (λ (x : List ℕ). (r, x)) a)
+    → cond t ([] ∷ fields bs) (on_first b fs) ≡ fields_by (b ∷ bs) (map (λ (x : List ℕ). (cond t [] (b ∷ r), x)) (cond t (some bs) a))
+unfolding on_first
+field_case b bs r a true fs e = refl
+field_case b bs r none false fs e = rw e
+field_case b bs r (some x) false fs e = rw e
+
+pub fields_first : (l : List ℕ) → fields l ≡ fields_by l (first_field l)
+unfolding fields pieces before_comma before after_comma first_field
+fields_first [] = refl
+fields_first (b ∷ bs) = field_case b bs (before 44 bs) (after_comma bs) (eqb b 44) (fields bs) (fields_first bs)
+
+-- where the search for a separator is, and what it has found
+pub ruleset ends = (end_hit, end_miss, end_none, before_within)
+
+-- the first field by the place where it ends
+pub ruleset firsts = (first_none, first_some)

@@ -1,4 +1,4 @@
-pub mod Parts
+pub mod Names
 pub mod Cuts
 pub mod Words
 pub mod Forms

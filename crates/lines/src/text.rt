@@ -1,29 +1,11 @@
-// Parts of the file, and what a text is: a name, a word or a number.
-ghost use Rattle.std.specs.Prelude.{◌≡◌, cond, ◌+◌, ◌≤◌, length};
+// What a text is: a file, a name, a letter or a number; and where its first piece ends.
+ghost use Rattle.std.specs.Prelude.{◌≡◌, true, false, cond, ◌≤◌, ◌<◌, length, take, get_or};
 ghost use Rattle.std.proofs.Math.Option.{none, some};
-ghost use Rattle.std.proofs.Math.Seq.{slice};
-ghost use Rattle.grammar.specs.Name.{is_name_byte_lem, is_name_lem, letter_byte_lem, no_letter_lem};
+ghost use Rattle.grammar.specs.Name.{is_name_byte_lem, are_name_bytes_lem, is_name_lem, letter_byte_lem, no_letter_lem};
 ghost use Rattle.reader.specs.Text.{before, is_number, spells};
 ghost use Rattle.reader.specs.Line.{letter_of};
 ghost use Rattle.reader.specs.File.{is_file_lem};
-ghost use Rattle.lines.specs.Parsed.{maybe_map, text_of, Within};
-
-// A part of the file: the bytes from one place up to, not including, another.
-#[derive(Clone, Copy)]
-pub struct Part {
-    pub from: usize,
-    pub to: usize,
-}
-
-impl Part {
-    // Its bytes.
-    pub fn text(self, f: &[u8]) -> &[u8]
-        requires { Within f.now self }
-        ensures { result.now ≡ text_of f.now self }
-    {
-        &f[self.from..self.to]
-    }
-}
+ghost use Rattle.lines.specs.Parsed.{maybe_map};
 
 // Row 2: whether the file is one that can be read.
 #[tactic(auto, using(std::proofs::lemmas::Bool::Decides::nat_tests), unfolding(reader::specs::File::is_file_lem))]
@@ -33,19 +15,19 @@ pub fn is_file(f: &[u8]) -> bool
     f.len() <= 32768 && matches!(f.last(), Some(b'\n'))
 }
 
-// The place of the first `sep` from `from` on, or `to` where there is none before it.
+// The place of the first separator, where the first piece ends; the text's end where there is none.
 #[tactic(auto, using(crate::proofs::Cuts::ends))]
-pub fn piece_end(f: &[u8], from: usize, to: usize, sep: u8) -> usize
-    requires { (from ≤ to) × (to ≤ length f.now) }
-    ensures value { result ≡ from + length (before sep (slice from to f.now)) }
-    ensures lower_bound { (from ≤ result) × (result ≤ to) }
+#[inline(never)]
+pub fn piece_end(text: &[u8], separator: u8) -> usize
+    ensures value { result ≡ length (before separator text.now) }
+    ensures within { result ≤ length text.now }
 {
-    for i in from..to {
-        if f[i] == sep {
+    for (i, &b) in text.iter().enumerate() {
+        if b == separator {
             return i;
         }
     }
-    to
+    text.len()
 }
 
 #[tactic(auto, unfolding(grammar::specs::Name::is_name_byte_lem, grammar::specs::Name::is_letter_lem))]
@@ -74,14 +56,39 @@ fn no_letter(b: u8) -> bool
     !matches!(b, b's' | b'o' | b'a' | b't')
 }
 
-// A name has 1 to 24 bytes, begins with a letter, and is none of s, o, a and t alone.
-pub fn is_name(text: &[u8]) -> bool
+// The place of the first byte that no name has; the text's end where there is none.
+#[tactic(auto, using(crate::proofs::Names::name_ends))]
+pub(crate) fn name_end(text: &[u8]) -> usize
+    ensures within { result ≤ length text.now }
+    ensures name_bytes { are_name_bytes_lem (take result text.now) ≡ true }
+    ensures stops { result < length text.now → is_name_byte_lem (get_or text.now result 0) ≡ false }
+{
+    for (i, &b) in text.iter().enumerate() {
+        if !is_name_byte(b) {
+            return i;
+        }
+    }
+    text.len()
+}
+
+// Whether a text of bytes that names have is a name: it has 1 to 24, begins with a letter, and is none of s, o, a and t alone.
+#[tactic(auto, using(crate::proofs::Names::names), unfolding(grammar::specs::Name::is_letter_lem))]
+pub(crate) fn begins_name(text: &[u8]) -> bool
+    requires { are_name_bytes_lem text.now ≡ true }
     ensures { result ≡ is_name_lem text.now }
 {
     if text.is_empty() || 24 < text.len() {
         return false;
     }
-    text[0].is_ascii_lowercase() && no_letter(letter(text)) && text.iter().all(|&b| is_name_byte(b))
+    text[0].is_ascii_lowercase() && no_letter(letter(text))
+}
+
+// A name has 1 to 24 bytes, begins with a letter, and is none of s, o, a and t alone.
+#[tactic(auto, using(crate::proofs::Names::names))]
+pub fn is_name(text: &[u8]) -> bool
+    ensures { result ≡ is_name_lem text.now }
+{
+    name_end(text) == text.len() && begins_name(text)
 }
 
 // The number that a text of 1 to 4 digits spells, without a leading zero.

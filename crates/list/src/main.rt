@@ -4,14 +4,16 @@
 mod errors;
 mod input;
 mod members;
+mod output;
 
 use composing::Composed;
 use errors::fail;
 use input::read_all;
 use members::names;
+use output::Gathered;
 use snowdell::compose;
 use std::io;
-use std::io::{BufWriter, Write};
+use std::io::Write;
 
 // What the listing calls an answer; a deny is not listed.
 fn word(answer: u8) -> Option<&'static [u8]> {
@@ -60,15 +62,15 @@ fn write_listing(
     Ok(())
 }
 
-fn list(rt: &(impl Print + AllocGlobal), file: &[u8]) -> io::Result<()> {
+fn list(rt: &impl Print, file: &[u8]) -> io::Result<()> {
     let mut answers = [0u8; 4096];
     let mut memory = [0u8; 65536];
-    let mut out = BufWriter::new(rt.alloc(), io::writer(rt))?;
+    let mut out = Gathered::new(rt);
     match compose(file, &mut answers, &mut memory) {
         Ok(r) => {
-            let subjects = names(rt.alloc(), file, b'S')?;
-            let objects = names(rt.alloc(), file, b'O')?;
-            let actions = names(rt.alloc(), file, b'A')?;
+            let subjects = names(file, b'S');
+            let objects = names(file, b'O');
+            let actions = names(file, b'A');
             write_listing(&mut out, r, &answers, &subjects, &objects, &actions)?;
         }
         Err(e) => writeln!(out, "refused,{e}")?,

@@ -2,7 +2,7 @@ use Rattle.std.proofs.Common.{get_or, arith, rules, sym, ◌∙◌}
 use lib.Pow.{pow-add}
 use Rattle.std.proofs.lemmas.Bool.Decides.{nat_tests}
 use Rattle.reader.specs.Text.{is_digit}
-use Rattle.lines.proofs.Parts.{numeral, number_empty, number_long, number_zero, number_nought, number_on, digit_high, digit_run, digit_stop, digit_end}
+use Rattle.lines.proofs.Names.{numeral, number_empty, number_long, number_zero, number_nought, number_on, digit_high, digit_run, digit_stop, digit_end}
 use Rattle.lines.proofs.text.number.Goals as goal
 use Rattle.lines.proofs.text.number.Goals.{then-is_empty-via-then-is_empty, then-is_empty-via-else-is_empty+then-text-gt4}
 

@@ -1,5 +1,5 @@
 use Rattle.std.proofs.Common.{◌≡◌, ◌+◌, ◌^◌, ◌≤◌, drop}
-use Rattle.lines.proofs.Parts.{valued}
+use Rattle.lines.proofs.Names.{valued}
 use Rattle.lines.proofs.text.number.Given as goal
 
 abbrev pub invariant-loop-b : goal.invariant-loop-b

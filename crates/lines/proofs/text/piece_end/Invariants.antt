@@ -1,8 +1,6 @@
-use Rattle.std.proofs.Common.{◌≡◌, ◌+◌, ◌≤◌, length}
-use Rattle.std.proofs.Math.Seq.{slice}
+use Rattle.std.proofs.Common.{◌≡◌, ◌+◌, length, drop}
 use Rattle.reader.specs.Text.{before}
 use Rattle.lines.proofs.text.piece_end.Given as goal
 
 abbrev pub invariant-loop-i : goal.invariant-loop-i
-invariant-loop-i l =
-    (l.from ≤ l.i) × (l.i ≤ l.to) × (l.from + length (before l.sep (slice l.from l.to l.f)) ≡ l.i + length (before l.sep (slice l.i l.to l.f)))
+invariant-loop-i l = length (before l.separator l.text) ≡ l.i + length (before l.separator (drop l.i l.text))

@@ -1,47 +1,23 @@
--- Laws of the parts of a file, and of names, words and numbers in them, on lists alone.
+-- Laws of names and numbers, on lists alone.
 use Prim.Native.Nat.{ℕ, zero, suc, ◌+◌, ◌-◌, ◌*◌, ◌<◌, ◌≤◌}
 use native.Mathlib.Numerals.{add-one}
-use native.Mathlib.Nat.{zero-add, suc-add}
 use native.Mathlib.Omega.{arith}
 use mathlib.Core.Path.{◌≡◌, refl, sym, ap, ◌∙◌}
 use mathlib.Core.List.{List, [], ◌∷◌}
 use mathlib.Core.Option.{Option, none, some}
 use mathlib.Core.Bool.{Bool, true, false, cond, ◌&&◌, and-false, and-true, or-true}
 use lib.ListN.{length, get_or, take, drop}
-use lib.Seq.{slice, slice-cons, length-slice, get_or-drop, get_or-take, drop-cons, drop-drop, take-nil, take-take, take_all}
+use lib.Seq.{drop-cons, take_all}
 use lib.Dec.{leb}
 use borrow.Author.Tests.{eq-eqb, ne_eqb, le-leb, lt-leb, leb-true}
 use Rattle.std.specs.List.{list_all}
 use Rattle.std.proofs.lemmas.List.{nil_from_length, drop_all}
+use Rattle.std.proofs.lemmas.Bool.Decides.{nat_tests}
 use Rattle.std.proofs.lemmas.List.Recursion.{same_from_clauses}
 use Rattle.algebra.proofs.Bool.{and_left, and_right}
 use Rattle.grammar.specs.Name.{is_letter_lem, is_name_byte_lem, are_name_bytes_lem, is_name_lem, no_letter_lem, letter_byte_lem, letter_word}
 use Rattle.reader.specs.Text.{is_digit, digits, is_number, spells}
 use Rattle.reader.specs.Line.{letter_of}
-use Rattle.lines.specs.Parsed.{text_of, Within, Named}
-use Rattle.lines.specs.declared.text.Part.{Part}
-
--- ---- a part, a byte at a time
-
-pub part_cons : (l : List ℕ) (from to : ℕ) → from < to → to ≤ length l → slice from to l ≡ get_or l from 0 ∷ slice (from + 1) to l
-part_cons l from to h k = rw add-one (slice-cons from to l 0 h k)
-
-pub part_get_or : (l : List ℕ) (from to k : ℕ) → from + k < to → get_or (slice from to l) k 0 ≡ get_or l (from + k) 0
-part_get_or l from to k h = get_or-drop from (take to l) k 0 ∙ get_or-take to l (from + k) 0 h
-
-take_drop : (n f : ℕ) (l : List ℕ) → take n (drop f l) ≡ drop f (take (f + n) l)
-take_drop n zero l = rw zero-add
-take_drop n (suc f) [] = rw suc-add (take-nil n)
-take_drop n (suc f) (x ∷ xs) = rw suc-add (take_drop n f xs)
-
-pub part_drop : (l : List ℕ) (from to n : ℕ) → drop n (slice from to l) ≡ slice (from + n) to l
-part_drop l from to n = drop-drop n from (take to l)
-
-pub part_take : (l : List ℕ) (from to n : ℕ) → from + n ≤ to → take n (slice from to l) ≡ slice from (from + n) l
-part_take l from to n h = take_drop n from (take to l) ∙ ap (λ (t : List ℕ). drop from t) (take-take (from + n) to l h)
-
-pub part_whole : (l : List ℕ) → slice 0 (length l) l ≡ l
-part_whole l = take_all (length l) l (omega arith)
 
 -- ---- the bytes of a name
 
@@ -89,14 +65,41 @@ module _ (w : List ℕ) where
   name_short e = leb-true (length w) 24 (and_right (is_letter_lem (get_or w 0 0) && are_name_bytes_lem w) (leb (length w) 24)
       (and_left (is_letter_lem (get_or w 0 0) && are_name_bytes_lem w && leb (length w) 24) (no_letter_lem (letter_word w)) e))
 
--- a part that holds a name is short
-pub named_part : (f : List ℕ) (p : Part) → Within f p → is_name_lem (text_of f p) ≡ true → Named f p
-named_part f p w e =
-    record {
-      order = w.order;
-      fits = w.fits;
-      short = omega (arith, w.order, name_short (text_of f p) e, length-slice p.from p.to f w.fits);
-    }
+-- ---- the bytes of a name, up to a place
+
+pub bytes_none : are_name_bytes_lem [] ≡ true
+unfolding are_name_bytes_lem
+bytes_none = refl
+
+pub bytes_all : (l : List ℕ) (i : ℕ) → i ≡ length l → are_name_bytes_lem (take i l) ≡ true → are_name_bytes_lem l ≡ true
+bytes_all l i e h = sym (ap are_name_bytes_lem (take_all i l (omega arith))) ∙ h
+
+bytes_next : (l : List ℕ) (i : ℕ) → i < length l → are_name_bytes_lem (take i l) ≡ true → is_name_byte_lem (get_or l i 0) ≡ true
+    → are_name_bytes_lem (take (suc i) l) ≡ true
+unfolding are_name_bytes_lem
+bytes_next [] i h e b = absurd (omega arith)
+bytes_next (x ∷ xs) zero h e b = rw b
+bytes_next (x ∷ xs) (suc i) h e b =
+    rw (and_left (is_name_byte_lem x) (are_name_bytes_lem (take i xs)) e)
+    (bytes_next xs i (omega arith) (and_right (is_name_byte_lem x) (are_name_bytes_lem (take i xs)) e) b)
+
+pub bytes_more : (l : List ℕ) (i : ℕ) → i < length l → are_name_bytes_lem (take i l) ≡ true → is_name_byte_lem (get_or l i 0) ≡ true
+    → are_name_bytes_lem (take (i + 1) l) ≡ true
+bytes_more l i h e b = rw add-one (bytes_next l i h e b)
+
+bytes_stop : (l : List ℕ) (i : ℕ) → i < length l → is_name_byte_lem (get_or l i 0) ≡ false → are_name_bytes_lem l ≡ false
+unfolding are_name_bytes_lem
+bytes_stop [] i h b = absurd (omega arith)
+bytes_stop (x ∷ xs) zero h b = rw b
+bytes_stop (x ∷ xs) (suc i) h b = rw (bytes_stop xs i (omega arith) b) (and-false (is_name_byte_lem x))
+
+pub name_stops : (l : List ℕ) (i : ℕ) → i < length l → is_name_byte_lem (get_or l i 0) ≡ false → is_name_lem l ≡ false
+unfolding is_name_lem
+name_stops l i h b = rw (bytes_stop l i h b, and-false (is_letter_lem (get_or l 0 0)))
+
+pub name_begins : (w : List ℕ) → are_name_bytes_lem w ≡ true → length w ≤ 24
+    → is_name_lem w ≡ (is_letter_lem (get_or w 0 0) && no_letter_lem (letter_byte_lem (letter_of w)))
+name_begins w e h = name_tests w h ∙ rw (e, and-true (no_letter_lem (letter_byte_lem (letter_of w))))
 
 -- ---- numbers
 
@@ -147,3 +150,8 @@ module _ (l : List ℕ) (i n : ℕ) (h : i < length l) where
 pub digit_end : (l : List ℕ) (i n : ℕ) → length l ≤ i → valued n (drop i l) ≡ some n
 unfolding valued digits spells
 digit_end l i n h = rw (drop_all i l h)
+
+-- where the bytes of a name end, and whether a text is one
+pub ruleset name_ends = (bytes_none, bytes_more)
+
+pub ruleset names = (nat_tests, bytes_all, name_stops, name_begins, name_empty, name_long)
