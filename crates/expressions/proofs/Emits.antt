@@ -1,18 +1,19 @@
 -- The cells that an expression's text yields are the nodes of its tree, its operators are counted, and the place is that of its first name
 -- that is not declared. Assumes nothing.
-use Rattle.std.proofs.Common.{◌≡◌, refl, sym, ap, subst, ◌∙◌, Bool, true, false, not, ◌||◌, List, [], ◌∷◌, ◌++◌, ℕ, suc, ◌+◌, ◌≤◌, ◌<◌, min, ltb, arith}
+use Rattle.std.proofs.Common.{◌≡◌, refl, sym, ap, subst, ◌∙◌, Bool, true, false, cond, not, ◌||◌, List, [], ◌∷◌, ◌++◌, ℕ, suc, ◌+◌, ◌≤◌, ◌<◌, min, ltb, arith}
 use Rattle.std.proofs.Common.{length, get_or, length-append}
 use Rattle.std.specs.Prelude as rust
-use Rattle.std.proofs.Math.ListN.{length-set}
+use Rattle.std.proofs.Math.ListN.{get_or-append}
 use Rattle.std.proofs.Math.Option.{Option, none, some, or_else}
-use Rattle.std.proofs.Math.Seq.{get_or-set_same, get_or-set_other}
+use Rattle.std.proofs.Math.Seq.{get_or-append_seam}
+use Rattle.arrayvec.specs.ArrayVec.{array_vec_len}
 use borrow.Author.Tests.{ltb-true, ltb-false, lt-ltb}
 use Rattle.algebra.specs.Sort.{Sort, subject, object, action}
 use Rattle.algebra.specs.Order.{Op, le, ge, lt, gt, eq}
 use Rattle.algebra.specs.Answer.{Joiner, plus-sign, and-sign, minus-sign}
 use Rattle.algebra.specs.Algebra.{Tree, table, join, override, scope, template, operators}
 use Rattle.algebra.specs.Lists.{only}
-use Rattle.algebra.specs.Meant.{op_meant}
+use Rattle.algebra.specs.Meant.{op_meant, found_of}
 use Rattle.algebra.specs.Policy as policy
 use Rattle.algebra.specs.Nodes as meanings
 use Rattle.algebra.specs.Nodes.{join_node, scope_node, size, Encodes}
@@ -22,11 +23,10 @@ use Rattle.grammar.specs.Expression as Grammar
 use Rattle.grammar.specs.Expression.{Exp, one, more, Fac, plain, scoped, closed_by, Pri, table_name, bracket, byte_j}
 use Rattle.grammar.specs.Expression.{text_s, text_e, text_f, text_p}
 use Rattle.grammar.specs.Names as Names
-use Rattle.grammar.specs.Names.{Kind, rule-set, Named, is_free, free_of, names_s, names_e, names_f, names_p, names, first_missing, missing}
+use Rattle.grammar.specs.Names.{Kind, Named, is_free, free_of, names_s, names_e, names_f, names_p, names, first_missing, missing}
 use Rattle.grammar.specs.Lookup.{same, found, place}
 use Rattle.grammar.specs.Tree.{scope_of, table_of, tree_e, tree_f, tree_p, tree_of}
 use Rattle.grammar.proofs.Names.{entry}
-use Rattle.name_index.specs.Parts.{found_of}
 use Rattle.nodes.specs.Cells.{node_meant, label}
 use Rattle.nodes.specs.declared.Node.{Node}
 use Rattle.nodes.specs.declared.Node.TheVariants.{Table, Join, Override, Template}
@@ -40,53 +40,52 @@ use Rattle.words.proofs.Within.{filled_e}
 -- ---- one node more
 
 module _ (p : Nodes) (n : Node) where
-  stored_long : length (stored p n).nodes ≡ length p.nodes
+  stored_used : array_vec_len p.nodes ≤ most_nodes → array_vec_len (stored p n).nodes ≡ min most_nodes (array_vec_len p.nodes + 1)
   unfolding stored
-  stored_long = go (ltb p.used most_nodes) refl
+  stored_used h = go (ltb (array_vec_len p.nodes) most_nodes) refl
     where
-      go : (b : Bool) → ltb p.used most_nodes ≡ b → length (stored p n).nodes ≡ length p.nodes
-      go true e = rw e (length-set p.nodes p.used n)
-      go false e = rw e
-
-  stored_used : p.used ≤ most_nodes → (stored p n).used ≡ min most_nodes (p.used + 1)
-  unfolding stored counted_to
-  stored_used h = go (ltb p.used most_nodes) refl
-    where
-      go : (b : Bool) → ltb p.used most_nodes ≡ b → (stored p n).used ≡ min most_nodes (p.used + 1)
-      go true e = rw e (omega (arith, ltb-true p.used most_nodes e))
-      go false e = rw e (omega (arith, ltb-false p.used most_nodes e))
+      go : (b : Bool) → ltb (array_vec_len p.nodes) most_nodes ≡ b → array_vec_len (stored p n).nodes ≡ min most_nodes (array_vec_len p.nodes + 1)
+      go true e = rw e (omega (arith, ltb-true (array_vec_len p.nodes) most_nodes e, length-append p.nodes.items (n ∷ [])))
+      go false e = rw e (omega (arith, ltb-false (array_vec_len p.nodes) most_nodes e))
 
   -- the nodes before stay
-  stored_below : (j : ℕ) → j < p.used → get_or (stored p n).nodes j Template ≡ get_or p.nodes j Template
+  stored_below : (j : ℕ) → j < array_vec_len p.nodes → get_or (stored p n).nodes.items j Template ≡ get_or p.nodes.items j Template
   unfolding stored
-  stored_below j l = go (ltb p.used most_nodes) refl
+  stored_below j l = go (ltb (array_vec_len p.nodes) most_nodes) refl
     where
-      go : (b : Bool) → ltb p.used most_nodes ≡ b → get_or (stored p n).nodes j Template ≡ get_or p.nodes j Template
-      go true e = rw e (get_or-set_other p.nodes p.used j n Template (λ q. omega arith))
+      go : (b : Bool) → ltb (array_vec_len p.nodes) most_nodes ≡ b → get_or (stored p n).nodes.items j Template ≡ get_or p.nodes.items j Template
+      go true e = rw e (get_or-append p.nodes.items (n ∷ []) Template j l)
       go false e = rw e
 
-  stored_own : length p.nodes ≡ 193 → p.used < most_nodes → get_or (stored p n).nodes p.used Template ≡ n
+  stored_own : array_vec_len p.nodes < most_nodes → get_or (stored p n).nodes.items (array_vec_len p.nodes) Template ≡ n
   unfolding stored
-  stored_own h l = rw (lt-ltb p.used most_nodes l) (get_or-set_same p.nodes p.used n Template (omega arith))
+  stored_own l = rw (lt-ltb (array_vec_len p.nodes) most_nodes l) (get_or-append_seam p.nodes.items n [] Template)
 
 -- ---- a tree's nodes, one after another
 
--- p' is p with the nodes of t after it, if there is room for them; where the count does not reach its bound, it is the tree's
+-- p' is p with the nodes of t after it, if there is room for them; the count stops at its bound
 pub record Counts (p p' : Nodes) (t : Tree policy.Scope) : Type 0 where
-  pub long : length p'.nodes ≡ length p.nodes
-  pub used_is : p.used ≤ most_nodes → p'.used ≡ min most_nodes (p.used + size t)
-  pub before : p.used ≤ most_nodes → (j : ℕ) → j < p.used → get_or p'.nodes j Template ≡ get_or p.nodes j Template
-  pub nodes : length p.nodes ≡ 193 → p.used + size t ≤ most_nodes → Encodes (label p'.nodes) t p.used p'.used
-  pub operators_add : p.operators + operators t ≤ most_count → p'.operators ≡ p.operators + operators t
+  pub used_is : array_vec_len p.nodes ≤ most_nodes → array_vec_len p'.nodes ≡ min most_nodes (array_vec_len p.nodes + size t)
+  pub before : array_vec_len p.nodes ≤ most_nodes → (j : ℕ) → j < array_vec_len p.nodes → get_or p'.nodes.items j Template ≡ get_or p.nodes.items j Template
+  pub nodes : array_vec_len p.nodes + size t ≤ most_nodes → Encodes (label p'.nodes.items) t (array_vec_len p.nodes) (array_vec_len p'.nodes)
+  pub operators_add : p.operators ≤ most_count → p'.operators ≡ min (p.operators + operators t) most_count
 
 -- a node that is an operator
 abbrev IsOperator : Node → Type 0
-IsOperator n = (i : ℕ) → operators_after i n ≡ min (i + 1) most_count
+IsOperator n = (i : ℕ) → operators_after i n ≡ counted_to most_count i
+
+counted_is : (i : ℕ) → i ≤ most_count → counted_to most_count i ≡ min (i + 1) most_count
+unfolding counted_to
+counted_is i h = go (ltb i most_count) refl
+  where
+    go : (b : Bool) → ltb i most_count ≡ b → cond b (i + 1) i ≡ min (i + 1) most_count
+    go true e = omega (arith, ltb-true i most_count e)
+    go false e = omega (arith, ltb-false i most_count e)
 
 -- a node where it is put
-own_node : (p : Nodes) (n : Node) {s : meanings.Node policy.Scope} → node_meant n ≡ s → length p.nodes ≡ 193 → p.used < most_nodes
-    → label (stored p n).nodes p.used ≡ s
-own_node p n e h l = ap node_meant (stored_own p n h l) ∙ e
+own_node : (p : Nodes) (n : Node) {s : meanings.Node policy.Scope} → node_meant n ≡ s → array_vec_len p.nodes < most_nodes
+    → label (stored p n).nodes.items (array_vec_len p.nodes) ≡ s
+own_node p n e l = ap node_meant (stored_own p n l) ∙ e
 
 -- the code's sorts, comparisons and signs are those of the definitions
 meant_op : (o : Op) → op_meant (op_named o) ≡ o
@@ -106,34 +105,33 @@ ends_at : {at : ℕ → meanings.Node policy.Scope} {t : Tree policy.Scope} {lo 
 ends_at {at} {t} {lo} e x = subst (Encodes at t lo) e x
 
 module _ (p : Nodes) where
-  table_operators : (m : ℕ) → (stored p (Table m)).operators ≡ p.operators + operators {C = policy.Scope} (table m)
+  table_operators : (m : ℕ) → p.operators ≤ most_count → (stored p (Table m)).operators ≡ min (p.operators + operators {C = policy.Scope} (table m)) most_count
   unfolding stored operators_after operators
-  table_operators m = omega arith
+  table_operators m l = omega arith
 
   counts_table : (m : ℕ) → Counts p (stored p (Table m)) (table m)
   unfolding size operators
   counts_table m =
       let n : Node = Table m in
       record {
-        long = stored_long p n;
         used_is = stored_used p n;
         before = λ h. stored_below p n;
-        nodes = λ h l. ends_at (omega (arith, stored_used p n (omega arith)))
-            (more_table (label p.nodes) (label (stored p n).nodes) p.used (λ k i. ap node_meant (stored_below p n k i)) m
-            (own_node p n refl h (omega arith)));
-        operators_add = λ l. table_operators m;
+        nodes = λ l. ends_at (omega (arith, stored_used p n (omega arith)))
+            (more_table (label p.nodes.items) (label (stored p n).nodes.items) (array_vec_len p.nodes) (λ k i. ap node_meant (stored_below p n k i)) m
+            (own_node p n refl (omega arith)));
+        operators_add = table_operators m;
       }
 
   binary_operators : (n : Node) (p₁ p₂ : Nodes) (l r t' : Tree policy.Scope) → operators t' ≡ suc (operators l + operators r)
       → IsOperator n
-      → (p.operators + operators l ≤ most_count → p₁.operators ≡ p.operators + operators l)
-      → (p₁.operators + operators r ≤ most_count → p₂.operators ≡ p₁.operators + operators r) → p.operators + operators t' ≤ most_count
-      → (stored p₂ n).operators ≡ p.operators + operators t'
+      → (p.operators ≤ most_count → p₁.operators ≡ min (p.operators + operators l) most_count)
+      → (p₁.operators ≤ most_count → p₂.operators ≡ min (p₁.operators + operators r) most_count)
+      → p.operators ≤ most_count → (stored p₂ n).operators ≡ min (p.operators + operators t') most_count
   unfolding stored
   binary_operators n p₁ p₂ l r t' o ops f g z =
-      let a = f (omega arith) in
+      let a = f z in
       let b = g (omega arith) in
-      ops p₂.operators ∙ omega arith
+      ops p₂.operators ∙ omega (arith, counted_is p₂.operators (omega arith))
 
   -- a node with two parts
   counts_binary : (n : Node) (p₁ p₂ : Nodes) (l r t' : Tree policy.Scope) → size t' ≡ suc (size l + size r) → operators t' ≡ suc (operators l + operators r)
@@ -143,19 +141,18 @@ module _ (p : Nodes) where
       → Counts p (stored p₂ n) t'
   counts_binary n p₁ p₂ l r t' s o larger ops x y =
       record {
-        long = stored_long p₂ n ∙ y.long ∙ x.long;
         used_is = λ h. let a = x.used_is h in let b = y.used_is (omega arith) in omega (arith, stored_used p₂ n (omega arith));
         before = λ h k i.
             let a = x.used_is h in
             let b = y.used_is (omega arith) in
             stored_below p₂ n k (omega arith) ∙ y.before (omega arith) k (omega arith) ∙ x.before h k i;
-        nodes = λ h room.
+        nodes = λ room.
             let a = x.used_is (omega arith) in
             let b = y.used_is (omega arith) in
             ends_at (omega (arith, stored_used p₂ n (omega arith)))
-            (larger (label p₂.nodes) (label (stored p₂ n).nodes) p.used p₁.used p₂.used (λ k i. ap node_meant (stored_below p₂ n k i))
-            (own_node p₂ n refl (y.long ∙ x.long ∙ h) (omega arith))
-            (encodes_same (λ k i q. ap node_meant (y.before (omega arith) k q)) (x.nodes h (omega arith))) (y.nodes (x.long ∙ h) (omega arith)));
+            (larger (label p₂.nodes.items) (label (stored p₂ n).nodes.items) (array_vec_len p.nodes) (array_vec_len p₁.nodes) (array_vec_len p₂.nodes)
+            (λ k i. ap node_meant (stored_below p₂ n k i)) (own_node p₂ n refl (omega arith))
+            (encodes_same (λ k i q. ap node_meant (y.before (omega arith) k q)) (x.nodes (omega arith))) (y.nodes (omega arith)));
         operators_add = λ z. binary_operators n p₁ p₂ l r t' o ops x.operators_add y.operators_add z;
       }
 
@@ -172,16 +169,16 @@ module _ (p : Nodes) where
       counts_binary Template p₁ p₂ e f (template e f) refl refl (λ at at' lo mid hi h q. more_template at at' hi h q) (λ i. refl) x y
 
   override_operators : (p₁ p₂ p₃ : Nodes) (l m r : Tree policy.Scope)
-      → (p.operators + operators l ≤ most_count → p₁.operators ≡ p.operators + operators l)
-      → (p₁.operators + operators m ≤ most_count → p₂.operators ≡ p₁.operators + operators m)
-      → (p₂.operators + operators r ≤ most_count → p₃.operators ≡ p₂.operators + operators r)
-      → p.operators + operators (override l m r) ≤ most_count → (stored p₃ Override).operators ≡ p.operators + operators (override l m r)
+      → (p.operators ≤ most_count → p₁.operators ≡ min (p.operators + operators l) most_count)
+      → (p₁.operators ≤ most_count → p₂.operators ≡ min (p₁.operators + operators m) most_count)
+      → (p₂.operators ≤ most_count → p₃.operators ≡ min (p₂.operators + operators r) most_count)
+      → p.operators ≤ most_count → (stored p₃ Override).operators ≡ min (p.operators + operators (override l m r)) most_count
   unfolding stored operators operators_after
   override_operators p₁ p₂ p₃ l m r f g k z =
-      let a = f (omega arith) in
+      let a = f z in
       let b = g (omega arith) in
       let d = k (omega arith) in
-      omega arith
+      omega (arith, counted_is p₃.operators (omega arith))
 
   counts_override : (p₁ p₂ p₃ : Nodes) (l m r : Tree policy.Scope) → Counts p p₁ l → Counts p₁ p₂ m → Counts p₂ p₃ r
       → Counts p (stored p₃ Override) (override l m r)
@@ -189,7 +186,6 @@ module _ (p : Nodes) where
   counts_override p₁ p₂ p₃ l m r x y w =
       let n : Node = Override in
       record {
-        long = stored_long p₃ n ∙ w.long ∙ y.long ∙ x.long;
         used_is = λ h.
             let a = x.used_is h in
             let b = y.used_is (omega arith) in
@@ -200,24 +196,24 @@ module _ (p : Nodes) where
             let b = y.used_is (omega arith) in
             let d = w.used_is (omega arith) in
             stored_below p₃ n k (omega arith) ∙ w.before (omega arith) k (omega arith) ∙ y.before (omega arith) k (omega arith) ∙ x.before h k i;
-        nodes = λ h room.
+        nodes = λ room.
             let a = x.used_is (omega arith) in
             let b = y.used_is (omega arith) in
             let d = w.used_is (omega arith) in
             ends_at (omega (arith, stored_used p₃ n (omega arith)))
-            (more_override (label p₃.nodes) (label (stored p₃ n).nodes) p₃.used (λ k i. ap node_meant (stored_below p₃ n k i))
-            (own_node p₃ n refl (w.long ∙ y.long ∙ x.long ∙ h) (omega arith))
-            (encodes_same (λ k i q. ap node_meant (w.before (omega arith) k (omega arith) ∙ y.before (omega arith) k q)) (x.nodes h (omega arith)))
-            (encodes_same (λ k i q. ap node_meant (w.before (omega arith) k q)) (y.nodes (x.long ∙ h) (omega arith)))
-            (w.nodes (y.long ∙ x.long ∙ h) (omega arith)));
+            (more_override (label p₃.nodes.items) (label (stored p₃ n).nodes.items) (array_vec_len p₃.nodes) (λ k i. ap node_meant (stored_below p₃ n k i))
+            (own_node p₃ n refl (omega arith))
+            (encodes_same (λ k i q. ap node_meant (w.before (omega arith) k (omega arith) ∙ y.before (omega arith) k q)) (x.nodes (omega arith)))
+            (encodes_same (λ k i q. ap node_meant (w.before (omega arith) k q)) (y.nodes (omega arith)))
+            (w.nodes (omega arith)));
         operators_add = λ z. override_operators p₁ p₂ p₃ l m r x.operators_add y.operators_add w.operators_add z;
       }
 
   unary_operators : (n : Node) (p₁ : Nodes) (t t' : Tree policy.Scope) → operators t' ≡ suc (operators t)
-      → IsOperator n → (p.operators + operators t ≤ most_count → p₁.operators ≡ p.operators + operators t)
-      → p.operators + operators t' ≤ most_count → (stored p₁ n).operators ≡ p.operators + operators t'
+      → IsOperator n → (p.operators ≤ most_count → p₁.operators ≡ min (p.operators + operators t) most_count)
+      → p.operators ≤ most_count → (stored p₁ n).operators ≡ min (p.operators + operators t') most_count
   unfolding stored
-  unary_operators n p₁ t t' o ops f z = let a = f (omega arith) in ops p₁.operators ∙ omega arith
+  unary_operators n p₁ t t' o ops f z = let a = f z in ops p₁.operators ∙ omega (arith, counted_is p₁.operators (omega arith))
 
   -- a node with one part
   counts_unary : (n : Node) (p₁ : Nodes) (t t' : Tree policy.Scope) → size t' ≡ suc (size t) → operators t' ≡ suc (operators t)
@@ -226,14 +222,13 @@ module _ (p : Nodes) where
       → IsOperator n → Counts p p₁ t → Counts p (stored p₁ n) t'
   counts_unary n p₁ t t' s o larger ops x =
       record {
-        long = stored_long p₁ n ∙ x.long;
         used_is = λ h. let a = x.used_is h in omega (arith, stored_used p₁ n (omega arith));
         before = λ h k i. let a = x.used_is h in stored_below p₁ n k (omega (arith, some_size t)) ∙ x.before h k i;
-        nodes = λ h room.
+        nodes = λ room.
             let a = x.used_is (omega arith) in
             ends_at (omega (arith, stored_used p₁ n (omega arith)))
-            (larger (label p₁.nodes) (label (stored p₁ n).nodes) p.used p₁.used (λ k i. ap node_meant (stored_below p₁ n k i))
-            (own_node p₁ n refl (x.long ∙ h) (omega arith)) (x.nodes h (omega arith)));
+            (larger (label p₁.nodes.items) (label (stored p₁ n).nodes.items) (array_vec_len p.nodes) (array_vec_len p₁.nodes)
+            (λ k i. ap node_meant (stored_below p₁ n k i)) (own_node p₁ n refl (omega arith)) (x.nodes (omega arith)));
         operators_add = λ z. unary_operators n p₁ t t' o ops x.operators_add z;
       }
 
@@ -242,18 +237,17 @@ module _ (p : Nodes) where
   unfolding noted
   counts_noted (some m) i p₁ t x = x
   counts_noted none i p₁ t x =
-      record { long = x.long; used_is = x.used_is; before = x.before; nodes = x.nodes; operators_add = x.operators_add }
+      record { used_is = x.used_is; before = x.before; nodes = x.nodes; operators_add = x.operators_add }
 
   counts_after : (o : Option ℕ) (i : ℕ) (p₁ : Nodes) (t : Tree policy.Scope) → Counts (noted o i p) p₁ t → Counts p p₁ t
   unfolding noted
   counts_after (some m) i p₁ t x = x
   counts_after none i p₁ t x =
-      record { long = x.long; used_is = x.used_is; before = x.before; nodes = x.nodes; operators_add = x.operators_add }
+      record { used_is = x.used_is; before = x.before; nodes = x.nodes; operators_add = x.operators_add }
 
 -- no node yet
 pub record Empty (p : Nodes) : Type 0 where
-  pub room : length p.nodes ≡ 193
-  pub no_nodes : p.used ≡ 0
+  pub no_nodes : p.nodes.items ≡ []
   pub no_operators : p.operators ≡ 0
   pub no_place : p.missing ≡ rust.None
 
@@ -487,19 +481,23 @@ module _ (number : Kind → List ℕ → Option ℕ) where
         )
 
   -- ---- from no node on
-  pub yields : (e : Exp) (p : Nodes) → Empty p → length (text_e e) ≤ 32768 → Yields number e (emit_e number [] e 0 p)
+  pub yields : (e : Exp) (p : Nodes) → Empty p → Yields number e (emit_e number [] e 0 p)
   unfolding missing names or_else declared tree_of
-  yields e p z l =
+  yields e p z =
       let t = tree_of number e in
       let x = counts_e [] e 0 p in
-      let u = z.no_nodes in
-      let fill = filled_e number [] e 0 p record { long = z.room; few = omega arith; within = λ m j b. absurd (omega arith) } in
+      let u : array_vec_len p.nodes ≡ 0 = ap length z.no_nodes in
+      let fill = filled_e number [] e 0 p record { few = omega arith; within = λ m j b. absurd (omega arith) } in
       record {
-        long = fill.long;
         few = fill.few;
-        tree = λ o. subst (λ i. Encodes (label (emit_e number [] e 0 p).nodes) t i (emit_e number [] e 0 p).used) u
-            (x.nodes z.room (omega (arith, size_le t)));
-        operators_are = omega (arith, z.no_operators, operators_e [] e, x.operators_add (omega (arith, z.no_operators, operators_e [] e)));
+        tree = λ o. subst (λ i. Encodes (label (emit_e number [] e 0 p).nodes.items) t i (array_vec_len (emit_e number [] e 0 p).nodes)) u
+            (x.nodes (omega (arith, size_le t)));
+        operators_are = omega (arith, z.no_operators, x.operators_add (omega (arith, z.no_operators)));
         missing_is = misses_e [] e 0 p ∙ ap (λ (m : rust.Option ℕ). or_else (found_of m) (first_missing (declared []) (names_e e 0))) z.no_place;
         within = fill.within;
       }
+
+  -- a text of at most 100,000 bytes has its operators counted
+  pub operators_exact : (e : Exp) (p : Nodes) → Yields number e p → length (text_e e) ≤ most_count → p.operators ≡ operators (tree_of number e)
+  unfolding tree_of
+  operators_exact e p y l = omega (arith, y.operators_are, operators_e [] e)

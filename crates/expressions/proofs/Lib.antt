@@ -3,3 +3,4 @@ mod SuffixWays
 mod ReaderWays
 pub mod Emits
 mod Whole
+mod Goes

@@ -132,10 +132,6 @@ module _ (number : Kind → List ℕ → Option ℕ) (xs : List (List ℕ)) (t :
     g_past c n g (Ok m) u = record { stop = n; next = u.0; expression = g; ending = u.1 }
     g_past c n g (Err m) u = subst (StuckPart t at a c) (sym u.0) (g_open c n g u.1)
 
-    pub g_within : (n : ℕ) → ExpressionAt number xs t at a p q (Ok n) → n ≤ length t
-    unfolding ExpressionAt
-    g_within n g = g.within
-
     module _ (c n : ℕ) (x : PartAt number xs t at a c p q (Ok n)) where
       the_part : ReadsPart number xs t at a c n p q
       unfolding PartAt
@@ -438,10 +434,6 @@ module _ (number : Kind → List ℕ → Option ℕ) (xs : List (List ℕ)) (t :
     unfolding PrimaryAt FactorAt
     f_bad p' n x = x
 
-    pub f_in : (n : ℕ) → PrimaryAt number xs t at a p q (Ok n) → n ≤ length t
-    unfolding PrimaryAt
-    f_in n x = x.1.within
-
     pub f_join : (p' : Nodes) (n : ℕ) → PrimaryAt number xs t at a p q (Ok n) → (r' : Result ℕ ℕ) → SuffixesAt number t n q p' r'
         → FactorAt number xs t at a p p' r'
     unfolding PrimaryAt FactorAt SuffixesAt
@@ -480,9 +472,6 @@ module _ (number : Kind → List ℕ → Option ℕ) (xs : List (List ℕ)) (t :
       pub m_end : sign_byte (get_or t i 0) ≡ rust.None → MoreAt number xs t at a p q (Ok i)
       unfolding MoreAt
       m_end e = (x, e)
-
-      pub m_within : i ≤ length t
-      m_within = x.within
 
       module _ (b : ℕ) (j : joiners.Joiner) (w : b ≡ get_or t i 0) (y : rust.Some j ≡ sign_byte b) where
         the_sign : get_or t i 0 ≡ byte_j (joiner_meant j)
@@ -531,10 +520,6 @@ module _ (number : Kind → List ℕ → Option ℕ) (xs : List (List ℕ)) (t :
     unfolding FactorAt ExpressionAt
     e_bad p' n s = record { within = s.within; stops = λ ks u. s.stops ks start u }
 
-    pub e_in : (n : ℕ) → FactorAt number xs t at a p q (Ok n) → n ≤ length t
-    unfolding FactorAt
-    e_in n x = x.1.within
-
     pub e_join : (p' : Nodes) (n : ℕ) → FactorAt number xs t at a p q (Ok n) → (r' : Result ℕ ℕ) → MoreAt number xs t n a q p' r'
         → ExpressionAt number xs t at a p p' r'
     unfolding FactorAt MoreAt ExpressionAt join text_e emit_e
@@ -554,12 +539,6 @@ module _ (number : Kind → List ℕ → Option ℕ) (xs : List (List ℕ)) (t :
     e_join p' n s (Err m) y = record { within = y.within; stops = λ ks u. s.1.reads ks start ∙ y.stops ks start s.0 }
 
 -- ---- templates
--- `t:` behind the bracket lies within the text
-pub p_bound : (t : List ℕ) (at : ℕ) {r : Bool} → r ≡ (eqb (get_or t (at + 1) 0) 116 && eqb (get_or t (at + 1 + 1) 0) 58) → r ≡ true → at + 3 ≤ length t
-p_bound t at e h =
-    let v = eqb-true (get_or t (at + 1 + 1) 0) 58 (and_right (eqb (get_or t (at + 1) 0) 116) _ (sym e ∙ h)) in
-    omega (arith, is_in_lem 58 t (at + 1 + 1) v (omega arith))
-
 pub t_in : (t : List ℕ) (at to : ℕ) → Name t at (Ok to) → (at < to) × (to ≤ length t)
 unfolding Name
 t_in t at to m = (m.past, m.within)

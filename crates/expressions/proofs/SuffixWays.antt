@@ -1,7 +1,7 @@
 -- The ways through the readers of scopes and closures after a primary. Assumes nothing.
 use Rattle.std.proofs.Common.{◌≡◌, refl, ap, ◌∙◌, true, false, List, [], ◌∷◌, ◌++◌, Result, Ok, Err, ℕ, ◌+◌, ◌≤◌, ◌<◌, length, get_or, drop, subst, sym, arith}
-use Rattle.std.proofs.Common.{length-append}
-use Rattle.std.proofs.Math.Option.{Option}
+use Rattle.std.proofs.Common.{length-append, slice_range}
+use Rattle.std.proofs.Math.Option.{Option, none}
 use Rattle.std.proofs.Math.Seq.{slice, length-slice}
 use borrow.Author.Tests.{eqb-true, ne_eqb}
 use Rattle.grammar.specs.Expression.{Fac, scoped, closed_by, text_s, text_f}
@@ -12,7 +12,11 @@ use Rattle.words.specs.Contract.{suffix_byte, Past, Starts, Strict, Name, ScopeA
 use Rattle.words.specs.declared.Suffix.TheVariants.{Closing}
 use Rattle.words.specs.declared.SuffixText.{SuffixText}
 use Rattle.words.specs.declared.Nodes.{Nodes}
-use Rattle.grammar.proofs.Machine.{in_text, is_in_lem, run_none, run_byte, next_byte, settle_ruleset}
+use Rattle.names.specs.Looks.{lookup_of}
+use Rattle.name_index.proofs.Same.{part_is}
+use Rattle.expressions.specs.Reads.{Stays}
+use Rattle.expressions.specs.declared.text_reader.Reader.{Reader}
+use Rattle.grammar.proofs.Machine.{is_in_lem, run_none, run_byte, next_byte, settle_ruleset}
 
 strict_ruleset : (l : Left) (f : Fac) → Strict (at_ruleset l f)
 unfolding named named_end
@@ -24,9 +28,6 @@ ruleset_starts a ks l f b = record { steps = refl; ends = refl }
 
 -- ---- what the calls on the way ask for
 module _ (t : List ℕ) (at : ℕ) where
-  pub x_in : suffix_byte (get_or t at 0) ≡ true → at < length t
-  x_in e = in_text suffix_byte refl t at e
-
   pub x_in_2 : (i : ℕ) → Past t at 91 (Ok i) → i ≤ length t
   x_in_2 i b = omega (arith, b.0, is_in_lem 91 t at b.1 (omega arith))
 
@@ -109,6 +110,26 @@ module _ (t : List ℕ) (at : ℕ) where
                 },
           )
 
+-- ---- a suffix that was read
+module _ (t : List ℕ) (at : ℕ) (y : SuffixText) (the_suffix : SuffixAt t at (Ok y)) where
+  pub x_part : (y.from ≤ y.to) × (y.to ≤ length t)
+  unfolding SuffixAt
+  x_part = (the_suffix.0, the_suffix.1)
+
+  pub x_past : (p : Nodes) → (at < y.next) × (y.next ≤ length t)
+  unfolding SuffixAt
+  x_past p = (the_suffix.2, (the_suffix.3 (λ k n. none) p).within)
+
+-- a suffix and its node, by what the reader read from at first
+module _ {r r' : Reader} (s : Stays r r') where
+  pub suffix_first : (x : Result SuffixText ℕ) → SuffixAt r'.text.now r'.at x → SuffixAt r.text.now r'.at x
+  suffix_first x h = rw s.text at h
+
+  pub name_first : (y : SuffixText) (q q' : Nodes) → y.from ≤ y.to
+      → q' ≡ emit_name (lookup_of r'.names.now) y.suffix (slice_range r'.text.now y.from y.to) y.from q
+      → q' ≡ emit_name (lookup_of r.names.now) y.suffix (slice y.from y.to r.text.now) y.from q
+  name_first y q q' l h = rw (part_is y.from y.to r'.text.now l, s.names, s.text) at h
+
 -- ---- suffixes one after another
 module _ (number : Kind → List ℕ → Option ℕ) (t : List ℕ) (at : ℕ) (p : Nodes) where
   pub xs_first : at ≤ length t → ReadsSuffixes number t at at p p
@@ -126,14 +147,6 @@ module _ (number : Kind → List ℕ → Option ℕ) (t : List ℕ) (at : ℕ) (
         record { within = s.within; stops = λ a ks l f. x.reads a ks l f ∙ s.stops a ks l (x.with f) }
 
     module _ (y : SuffixText) (the_suffix : SuffixAt t i (Ok y)) where
-      pub xs_in : (y.from ≤ y.to) × (y.to ≤ length t)
-      unfolding SuffixAt
-      xs_in = (the_suffix.0, the_suffix.1)
-
-      pub xs_past : (i < y.next) × (y.next ≤ length t)
-      unfolding SuffixAt
-      xs_past = (the_suffix.2, (the_suffix.3 number q).within)
-
       pub xs_next : (q' : Nodes) → q' ≡ emit_name number y.suffix (slice y.from y.to t) y.from q
           → ReadsSuffixes number t at y.next p q'
       unfolding SuffixAt

@@ -1,30 +1,23 @@
 -- The ways through the reader of a whole text. Assumes nothing.
-use Rattle.std.proofs.Common.{◌≡◌, refl, sym, ap, subst, ◌∙◌, Bool, cond, List, [], Result, Ok, Err, ℕ, ◌≤◌, eqb, length, drop, length-drop, arith}
+use Rattle.std.proofs.Common.{◌≡◌, refl, sym, ap, subst, ◌∙◌, cond, List, [], Result, Ok, Err, ℕ, ◌≤◌, ◌<◌, eqb, length, drop, length-drop, arith}
+use Rattle.std.specs.Borrow.{Bor}
 use Rattle.std.proofs.Math.Option.{Option, none}
 use Rattle.grammar.specs.Expression.{Exp, most_open}
 use Rattle.grammar.specs.Machine.{start, join, State, need, have, closed, parted, binding, delimited, stuck, last, finish, step, run, Reading, read}
 use Rattle.grammar.specs.Machine.{wrong, told}
 use Rattle.grammar.specs.Machine.{reading}
 use Rattle.grammar.specs.Names.{Kind}
-use Rattle.names.specs.Looks.{lookup_of}
 use Rattle.words.specs.Cells.{Yields}
-use Rattle.words.specs.Contract.{ReadsExpression, ExpressionAt, Told, Answer}
+use Rattle.words.specs.Contract.{innermost_first, ReadsExpression, ExpressionAt, Told, Answer}
 use Rattle.words.specs.declared.Nodes.{Nodes}
-use Rattle.words.specs.declared.source.Source.{Source}
 use Rattle.grammar.proofs.Machine.{reading_is, run_end, run_stop}
 use Rattle.expressions.proofs.ReaderWays.{cond_same, delims}
 use Rattle.expressions.proofs.Emits.{Empty, yields}
 
--- ---- the reader's place
-module _ (S T : Source) (e : S ≡ T) where
-  pub r_here : (at : ℕ) (p q : Nodes) (r : Result ℕ ℕ) → at ≡ 0 → ExpressionAt (lookup_of S.names.now) [] S.text.now at 32 p q r
-      → ExpressionAt (lookup_of T.names.now) [] T.text.now 0 32 p q r
-  r_here at p q r z x =
-      subst (λ (s : Source). ExpressionAt (lookup_of s.names.now) [] s.text.now 0 32 p q r) e
-      (subst (λ (i : ℕ). ExpressionAt (lookup_of S.names.now) [] S.text.now i 32 p q r) z x)
-
-  pub r_over : (at n : ℕ) {b : Bool} → at ≡ n → b ≡ eqb at (length S.text.now) → b ≡ eqb n (length T.text.now)
-  r_over at n z x = x ∙ ap (λ (i : ℕ). eqb i (length S.text.now)) z ∙ ap (λ (s : Source). eqb n (length s.text.now)) e
+-- where no name is bound
+pub none_bound : (number : Kind → List ℕ → Option ℕ) (t : List ℕ) (p q : Nodes) (r : Result ℕ ℕ) {bs : List (Bor (List ℕ))} → bs ≡ []
+    → ExpressionAt number (innermost_first bs) t 0 32 p q r → ExpressionAt number [] t 0 32 p q r
+none_bound number t p q r e x = subst (λ xs. ExpressionAt number (innermost_first xs) t 0 32 p q r) e x
 
 top_none : (a : ℕ) (e : Exp) (b : ℕ) → delimited a [] e b ≡ none
 unfolding delimited closed parted
@@ -46,17 +39,17 @@ module _ (number : Kind → List ℕ → Option ℕ) (t : List ℕ) (p q : Nodes
     unfolding ExpressionAt
     the_expression = x
 
-    pub r_rest : (n ≡ length t → ⊥) → Answer number t (Err n)
+    pub r_rest : n < length t → Answer number t (Err n)
     unfolding step
     r_rest ne =
         let g = the_expression in
         told_stuck n g.within (g.reads [] ∙ run_stop t n (have 32 [] g.left g.end) (omega (arith, g.within))
         (delims 32 [] _ _ _ g.no_suffix g.no_sign ∙ top_none 32 _ _))
 
-    pub r_whole : Empty p → length t ≤ 32768 → n ≡ length t → Answer number t (Ok q)
+    pub r_whole : Empty p → n ≡ length t → Answer number t (Ok q)
     unfolding Told told finish last
-    r_whole z l h =
+    r_whole z h =
         let g = the_expression in
         let y : reading t ≡ read (join g.left g.end) = reading_is t ∙ ap (told t) (g.reads [] ∙ run_end t n _ (omega arith)) in
-        let w = yields number (join g.left g.end) p z (omega (arith, g.spans)) in
+        let w = yields number (join g.left g.end) p z in
         subst (λ (v : Reading). Told number t v (Ok q)) (sym y) (subst (Yields number (join g.left g.end)) (sym g.emits) w)

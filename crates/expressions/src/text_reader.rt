@@ -1,39 +1,22 @@
-// The reader over the expression keeps the text and its place together.
-ghost use Rattle.std.specs.Prelude.{◌≡◌, [], ◌≤◌, eqb, length};
-ghost use Rattle.words.specs.Contract.{ExpressionAt};
-ghost use Rattle.names.specs.Looks.{lookup_of};
+// What reads an expression.
+ghost use Rattle.std.specs.Prelude.{◌+◌, ◌≤◌, length};
+ghost use Rattle.arrayvec.specs.ArrayVec.{array_vec_len};
 
-use crate::expression;
-use words::{Nodes, Source};
+use arrayvec::ArrayVec;
+use names::Names;
+use words::{MOST_BOUND, Nodes};
 
-// What an expression is read from, with its text, and the place reached in the text.
-#[derive(Clone, Copy)]
+// An expression's text, and the place reached in it; the names that are declared before it, and those that its templates bind at that place, the innermost
+// last; how many brackets more may be opened; and the nodes of what was read.
+#[derive(Drop)]
 pub struct Reader<'a> {
-    pub source: &'a Source<'a>,
+    pub text: &'a [u8],
+    pub names: &'a Names<'a>,
     pub at: usize,
-}
-
-impl<'a> Reader<'a> {
-    // A reader at a place of the text.
-    pub fn at_place(source: &'a Source<'a>, at: usize) -> Reader<'a>
-        ensures source { result.source.now ≡ source.now }
-        ensures place { result.at ≡ at }
-    {
-        Reader { source, at }
-    }
-
-    // Reads an expression at the reader's place, where no name is bound.
-    pub fn expression_here(&self, allow: usize, nodes: &mut Nodes) -> Result<usize, usize>
-        requires { (self.now.at ≤ length self.now.source.now.text.now) × (allow ≤ 32) }
-        ensures { ExpressionAt (lookup_of self.now.source.now.names.now) [] self.now.source.now.text.now self.now.at allow nodes.old nodes.new result }
-    {
-        expression(self.source, &[], self.at, allow, nodes)
-    }
-
-    // Whether the reader stands at the text's end.
-    pub fn is_over(&self) -> bool
-        ensures { result ≡ eqb self.now.at (length self.now.source.now.text.now) }
-    {
-        self.at == self.source.text.len()
-    }
+    pub bound: ArrayVec<&'a [u8], MOST_BOUND>,
+    pub allow: usize,
+    pub nodes: Nodes,
+    pub ghost within: { at ≤ length text.now },
+    // a bound name has its bracket open
+    pub ghost few: { array_vec_len bound + allow ≤ 32 },
 }

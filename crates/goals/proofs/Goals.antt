@@ -1,33 +1,37 @@
 -- The verdict on an E line and its nodes, by the ways through their code; and the state after it.
-use Rattle.std.proofs.Common.{◌≡◌, refl, sym, ap, ◌∙◌, subst, true, false, List, [], ◌∷◌, Result, Ok, Err, ℕ, ◌≤◌, ◌<◌, ltb, length, take, arith}
+use Rattle.std.proofs.Common.{◌≡◌, refl, sym, ap, ◌∙◌, subst, true, false, List, [], ◌∷◌, Result, Ok, Err, ℕ, ◌≤◌, ◌<◌, ltb, length, arith}
 use Rattle.std.specs.Prelude as rust
 use Rattle.std.proofs.Math.Option.{Option, some}
 use Rattle.std.proofs.Math.Path.{fun_ext}
-use Rattle.std.proofs.Math.Seq.{length-take-le}
 use borrow.Author.Tests.{lt-ltb, le-ltb}
 use Rattle.algebra.proofs.Bool.{or_right}
 use Rattle.algebra.specs.Algebra.{Tree, operators, held, bindings}
 use Rattle.algebra.specs.Policy as policy
+use Rattle.algebra.specs.Sort.{Sort, subject, object, action}
+use Rattle.algebra.specs.StoredFrame.{size_of}
+use Rattle.algebra.specs.declared.Counts.{Counts}
+use Rattle.arrayvec.specs.ArrayVec.{array_vec_len}
 use Rattle.algebra.specs.Nodes.{Encodes}
+use Rattle.algebra.specs.Meant.{found_of}
 use Rattle.grammar.specs.Expression.{Exp}
 use Rattle.grammar.specs.Machine.{Reading, read, wrong, reading}
 use Rattle.grammar.specs.Names.{Kind}
 use Rattle.grammar.specs.Tree.{tree_of}
 use Rattle.grammar.proofs.Used.{used_table}
-use Rattle.name_index.specs.Parts.{found_of}
-use Rattle.names.specs.Looks.{lookup_of}
+use Rattle.names.specs.Looks.{lookup_of, counts_of}
 use Rattle.names.specs.declared.table.Names.{Names}
 use Rattle.nodes.specs.Cells.{label, HasTree}
-use Rattle.nodes.proofs.Parts.{coded_take, tree_take}
+use Rattle.nodes.specs.declared.Node.{Node}
 use Rattle.nodes.specs.declared.Counted.{Counted}
 use Rattle.words.specs.Cells.{Yields}
 use Rattle.words.specs.Contract.{Told, Answer}
 use Rattle.words.specs.declared.Nodes.{Nodes}
 use Rattle.reader.specs.Line.{expression_line}
-use Rattle.reader.specs.Declarations.{Declared, group_of}
+use Rattle.reader.specs.Declarations.{Declared, count, group_of}
 use Rattle.reader.specs.Expression.{lookup, is_declared}
 use Rattle.reader.specs.Rows.{row, placeless, good, refuse, first, rows, out_of_order, without_rule, bad_counts, too_many}
-use Rattle.reader.specs.Rows.{declared_already, not_declared, grants_away, two_sorts, not_of_grammar, name_not_declared, too_large_lem, too_deep, expression_rows}
+use Rattle.reader.specs.Rows.{declared_already, not_declared, grants_away, two_sorts, not_of_grammar}
+use Rattle.reader.specs.Rows.{name_not_declared, too_large_lem, too_deep, expression_rows}
 use Rattle.reader.specs.File.{goal_of, add}
 use Rattle.rows.specs.First.{number_of}
 use Rattle.rows.specs.declared.Refusal.{Refusal}
@@ -60,32 +64,28 @@ module _ (number : Kind → List ℕ → Option ℕ) (t : List ℕ) where
   told_good (read x) p h = record { expression = x; is = refl; yields = h }
   told_good (wrong q) p h = absurd h
 
--- the text, said in another way
-pub told_at : (number : Kind → List ℕ → Option ℕ) (r : Result Nodes ℕ) {t t' : List ℕ} → t ≡ t' → Answer number t r → Answer number t' r
-told_at number r e told = subst (λ (x : List ℕ). Answer number x r) e told
-
-pub used_few : (number : Kind → List ℕ → Option ℕ) (t : List ℕ) (p : Nodes) → Answer number t (Ok p) → p.used ≤ 193
-used_few number t p told = (told_good number t (reading t) p told).yields.few
-
 -- the nodes of an expression that was read, where it has few operators
 pub has_tree : (number : Kind → List ℕ → Option ℕ) (t : List ℕ) (p : Nodes) → Answer number t (Ok p) → p.operators ≤ 64
-    → HasTree (take p.used p.nodes) (length (take p.used p.nodes))
-has_tree number t p told few =
+    → {ns : List Node} → ns ≡ p.nodes.items → HasTree ns (length ns)
+has_tree number t p told few {ns} e =
     let w = told_good number t (reading t) p told in
     let y = w.yields in
-    let h : HasTree p.nodes p.used = record {
+    let h : HasTree p.nodes.items (length p.nodes.items) = record {
       tree = tree_of number w.expression;
       start = 0;
       coded = y.tree (omega (arith, y.operators_are));
       few = y.few;
-      long = omega (arith, y.long, y.few);
+      long = omega arith;
     } in
-    tree_take h
+    subst (λ (ms : List Node). HasTree ms (length ms)) (sym e) h
 
--- what is counted of the first nodes
-abbrev pub CountedOf : Nodes → Counted → Type 0
-CountedOf p r = (t : Tree policy.Scope) (lo : ℕ) → Encodes (label (take p.used p.nodes)) t lo (length (take p.used p.nodes))
+-- what is counted of some nodes
+abbrev pub CountedOf : List Node → Counted → Type 0
+CountedOf ns r = (t : Tree policy.Scope) (lo : ℕ) → Encodes (label ns) t lo (length ns)
     → (r.start ≡ lo) × (r.sets ≡ held t) × (r.bindings ≡ bindings t)
+
+pub counted_of : {ns ms : List Node} → ns ≡ ms → (r : Counted) → CountedOf ns r → CountedOf ms r
+counted_of e r h = subst (λ (ms : List Node). CountedOf ms r) e h
 
 -- ---- a refusal
 
@@ -96,7 +96,13 @@ judged_no d limit t r p h {e} er ep = h ∙ rw (← er, ← ep)
 
 -- ---- the verdict and the nodes
 
-module _ (names : Names) (d : Declared) (ns : NamesStand names d) (group : ℕ) (g : d.group ≡ group) (limit : ℕ) (t : List ℕ) where
+module _ (names : Names) (n : Counts) (n_is : n ≡ counts_of names) (d : Declared) (ns : NamesStand names d) (group : ℕ) (g : d.group ≡ group)
+    (limit : ℕ) (t : List ℕ) where
+  sizes_are : (σ : Sort) → size_of n σ ≡ count d σ
+  sizes_are subject = rw n_is (ns.members_many subject)
+  sizes_are object = rw n_is (ns.members_many object)
+  sizes_are action = rw n_is (ns.members_many action)
+
   no_rule_lem : without_rule d.rules (expression_line limit t) ≡ false
   unfolding without_rule
   no_rule_lem = go d.rules
@@ -109,17 +115,17 @@ module _ (names : Names) (d : Declared) (ns : NamesStand names d) (group : ℕ) 
   unfolding group_of
   group_7 = refl
 
-  pub goal_turn : {r : Refusal} → turn_of (late_of group 7) (bad_counts_of group 7 names.counts.subjects names.counts.objects names.counts.actions) ≡ rust.Err r
+  pub goal_turn : {r : Refusal} → turn_of (late_of group 7) (bad_counts_of group 7 n.subjects n.objects n.actions) ≡ rust.Err r
       → {e : Fault} → e.refusal ≡ r → e.place ≡ 0 → GoalJudged d limit t (Err e)
-  goal_turn {r} h = judged_no d limit t r 0 (turned_down names.counts d ns.members_many group g (expression_line limit t) 7 group_7 no_rule_lem h)
+  goal_turn {r} h = judged_no d limit t r 0 (turned_down n d sizes_are group g (expression_line limit t) 7 group_7 no_rule_lem h)
 
   module _ {x : Unit {0}}
-      (turn : turn_of (late_of group 7) (bad_counts_of group 7 names.counts.subjects names.counts.objects names.counts.actions) ≡ rust.Ok x) where
+      (turn : turn_of (late_of group 7) (bad_counts_of group 7 n.subjects n.objects n.actions) ≡ rust.Ok x) where
     row_4 : out_of_order d (expression_line limit t) ≡ false
-    row_4 = in_order names.counts d ns.members_many group g (expression_line limit t) 7 group_7 no_rule_lem (turn_ok _ _ turn).0
+    row_4 = in_order n d sizes_are group g (expression_line limit t) 7 group_7 no_rule_lem (turn_ok _ _ turn).0
 
     row_8 : bad_counts d (expression_line limit t) ≡ false
-    row_8 = counted names.counts d ns.members_many group g (expression_line limit t) 7 group_7 no_rule_lem (turn_ok _ _ turn).1
+    row_8 = counted n d sizes_are group g (expression_line limit t) 7 group_7 no_rule_lem (turn_ok _ _ turn).1
 
     pub goal_7 : 4096 < limit → {e : Fault} → e.refusal ≡ TooMany → e.place ≡ 0 → GoalJudged d limit t (Err e)
     unfolding too_many
@@ -177,17 +183,15 @@ module _ (names : Names) (d : Declared) (ns : NamesStand names d) (group : ℕ) 
           unfolding too_large_lem
           goal_operators x = too_large (or_right (ltb 14 (held tree)) (lt-ltb 64 (operators tree) (omega (arith, whole.yields.operators_are))))
 
-          module _ (few : p.operators ≤ 64) (r : Counted) (is_held : CountedOf p r) where
+          module _ (few : p.operators ≤ 64) (r : Counted) (is_held : CountedOf p.nodes.items r) where
             few_operators : operators tree ≤ 64
             few_operators = omega (arith, whole.yields.operators_are)
 
-            coded : Encodes (label p.nodes) tree 0 p.used
+            coded : Encodes (label p.nodes.items) tree 0 (array_vec_len p.nodes)
             coded = whole.yields.tree few_operators
 
             counted_are : (r.start ≡ 0) × (r.sets ≡ held tree) × (r.bindings ≡ bindings tree)
-            counted_are =
-                let n : length (take p.used p.nodes) ≡ p.used = length-take-le p.used p.nodes (omega (arith, whole.yields.long, whole.yields.few)) in
-                is_held tree 0 (subst (λ (i : ℕ). Encodes (label (take p.used p.nodes)) tree 0 i) (sym n) (coded_take p.used p.nodes (omega arith) coded))
+            counted_are = is_held tree 0 coded
 
             pub goal_held : 14 < r.sets → {e : Fault} → e.refusal ≡ TooLarge → e.place ≡ 0 → GoalJudged d limit t (Err e)
             unfolding too_large_lem
@@ -218,8 +222,7 @@ module _ (names : Names) (d : Declared) (ns : NamesStand names d) (group : ℕ) 
                   expression = whole.expression;
                   reads = whole.is;
                   tree = coded;
-                  long = whole.yields.long;
-                  few_used = whole.yields.few;
+                  few_nodes = whole.yields.few;
                   within = whole.yields.within h;
                   limited = p7;
                   few_held = few_held;
@@ -250,29 +253,24 @@ pub goal_added : (d : Declared) (limit : ℕ) (t : List ℕ) (p : Nodes) (G : Go
 unfolding add goal_of
 goal_added d limit t p G = ap (goal_of d limit) G.reads
 
-pub goal_stands : (f w : List ℕ) (st : State) (d : Declared) → Stands f w st d → (limit : ℕ) (t : List ℕ) → first (rows d (expression_line limit t)) ≡ good
-    → Stands f w (ended_of st) (add d (expression_line limit t))
+pub goal_stands : (w : List ℕ) (st : State) (d : Declared) → Stands w st d → (limit : ℕ) (t : List ℕ) → first (rows d (expression_line limit t)) ≡ good
+    → Stands w (ended_of st) (add d (expression_line limit t))
 unfolding add ended_of group_of
-goal_stands f w st d S limit t e = record {
+goal_stands w st d S limit t e = record {
   is_group = refl;
   names = record { members = S.names.members; predicates = S.names.predicates; tables = S.names.tables; sets = S.names.sets };
-  sound = S.sound;
-  few = S.few;
-  sizes = record { entries = S.sizes.entries; slots = S.sizes.slots; marks = S.sizes.marks; rules = S.sizes.rules };
-  counted = λ h. few_after f w st d S (expression_line limit t) e (omega arith);
+  counted = λ h. few_after w st d S (expression_line limit t) e (omega arith);
   marks = S.marks;
   grants = S.grants;
   all_grants = S.all_grants;
   rules = S.rules;
-  few_rules = S.few_rules;
   sorted = S.sorted;
-  shaped = S.shaped;
   within = S.within;
   no_grants = λ h. absurd (omega arith);
 }
 
 -- the same of the code's answer
-pub goal_line : (f w : List ℕ) (st : State) (d : Declared) → Stands f w st d → (limit : ℕ) (t : List ℕ) (g : Goal) → GoalTaken d limit t g
-    → (st' : State) → st' ≡ ended_of st → Stands f w st' (add d (expression_line limit t))
-goal_line f w st d S limit t g J st' es =
-    subst (λ (x : State). Stands f w x (add d (expression_line limit t))) (sym es) (goal_stands f w st d S limit t J.verdict)
+pub goal_line : (w : List ℕ) (st : State) (d : Declared) → Stands w st d → (limit : ℕ) (t : List ℕ) (g : Goal) → GoalTaken d limit t g
+    → (st' : State) → st' ≡ ended_of st → Stands w st' (add d (expression_line limit t))
+goal_line w st d S limit t g J st' es =
+    subst (λ (x : State). Stands w x (add d (expression_line limit t))) (sym es) (goal_stands w st d S limit t J.verdict)

@@ -1,19 +1,20 @@
 -- What the code's answer on an E line means, in terms of the rows and of what is declared after it.
-use Rattle.std.specs.Prelude.{◌≡◌, List, ℕ, ◌≤◌, ◌<◌, length, get_or, Result, Ok, Err}
+use Rattle.std.specs.Prelude.{◌≡◌, List, ℕ, ◌≤◌, ◌<◌, get_or, Result, Ok, Err}
 use Rattle.algebra.specs.Algebra.{Uses, operators, held, bindings}
 use Rattle.algebra.specs.Nodes.{Encodes}
 use Rattle.algebra.specs.Meant.{sort_meant}
 use Rattle.algebra.specs.declared.Scope.TheVariants.{Compared, Marked}
+use Rattle.arrayvec.specs.ArrayVec.{array_vec_len}
 use Rattle.grammar.specs.Expression.{Exp}
 use Rattle.grammar.specs.Machine.{read, reading}
 use Rattle.grammar.specs.Names.{table}
 use Rattle.grammar.specs.Tree.{tree_of}
-use Rattle.names.specs.Entries.{member_count}
+use Rattle.names.specs.Looks.{member_count}
 use Rattle.nodes.specs.Cells.{label}
 use Rattle.words.specs.Cells.{NumberOf, NodeWithin}
 use Rattle.nodes.specs.declared.Node.{Node}
 use Rattle.nodes.specs.declared.Node.TheVariants.{Table, Join, Override, Scope, Closure, Template}
-use Rattle.names.specs.declared.NameCounts.{NameCounts}
+use Rattle.names.specs.declared.table.Names.{Names}
 use Rattle.words.specs.declared.Nodes.{Nodes}
 use Rattle.reader.specs.Line.{expression_line}
 use Rattle.reader.specs.Declarations.{Declared}
@@ -29,25 +30,24 @@ use Rattle.goals.specs.declared.Goal.{Goal}
 pub record GoalGood (d : Declared) (limit : ℕ) (t : List ℕ) (p : Nodes) : Type 0 where
   pub expression : Exp
   pub reads : reading t ≡ read expression
-  pub tree : Encodes (label p.nodes) (tree_of (lookup d) expression) 0 p.used
-  pub long : length p.nodes ≡ 193
-  pub few_used : p.used ≤ 193
-  pub within : (j : ℕ) → j < p.used → NodeWithin (lookup d) (get_or p.nodes j Template)
+  pub tree : Encodes (label p.nodes.items) (tree_of (lookup d) expression) 0 (array_vec_len p.nodes)
+  pub few_nodes : array_vec_len p.nodes ≤ 193
+  pub within : (j : ℕ) → j < array_vec_len p.nodes → NodeWithin (lookup d) (get_or p.nodes.items j Template)
   pub limited : limit ≤ 4096
   pub few_held : held (tree_of (lookup d) expression) ≤ 14
   pub few_operators : operators (tree_of (lookup d) expression) ≤ 64
   pub few_bindings : bindings (tree_of (lookup d) expression) ≤ 4
   pub tables : (i : ℕ) → Uses (tree_of (lookup d) expression) i → NumberOf (lookup d) table i
 
--- the number of a scope's node is in its range, for so many names
-unfoldable pub NodeFits : NameCounts → Node → Type 0
-NodeFits c (Table i) = Unit {0}
-NodeFits c (Join j) = Unit {0}
-NodeFits c Override = Unit {0}
-NodeFits c (Scope (Compared s op m)) = m < member_count c (sort_meant s)
-NodeFits c (Scope (Marked s p)) = p < 16
-NodeFits c (Closure i) = Unit {0}
-NodeFits c Template = Unit {0}
+-- the number of a scope's node is in its range, for the names
+unfoldable pub NodeFits : Names → Node → Type 0
+NodeFits names (Table i) = Unit {0}
+NodeFits names (Join j) = Unit {0}
+NodeFits names Override = Unit {0}
+NodeFits names (Scope (Compared s op m)) = m < member_count names (sort_meant s)
+NodeFits names (Scope (Marked s p)) = p < 16
+NodeFits names (Closure i) = Unit {0}
+NodeFits names Template = Unit {0}
 
 -- a goal that no row refuses, with the limit that was written
 pub record GoalTaken (d : Declared) (limit : ℕ) (t : List ℕ) (g : Goal) : Type 0 where

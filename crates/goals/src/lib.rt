@@ -1,14 +1,12 @@
 // E lines: the rows that they may meet, and the nodes of the expression.
 #![tactic(auto)]
 
-ghost use Rattle.std.specs.Prelude.{◌≡◌, ◌≤◌, length};
+ghost use Rattle.std.specs.Prelude.{◌≡◌};
 ghost use Rattle.reader.specs.Declarations.{Declared};
-ghost use Rattle.lines.specs.Parsed.{Within, text_of};
 ghost use Rattle.state.specs.Standing.{group_number, NamesStand};
 ghost use Rattle.goals.specs.Goals.{GoalJudged};
 
 use expressions::read;
-use lines::text::Part;
 use names::Names;
 use nodes::sets_held;
 use rows::Refusal;
@@ -16,7 +14,7 @@ use state::{Group, in_turn};
 use words::Nodes;
 
 // What an E line declares: a limit, and the nodes of its expression.
-#[derive(Clone, Copy)]
+#[derive(Drop)]
 pub struct Goal {
     pub limit: u16,
     pub nodes: Nodes,
@@ -40,18 +38,24 @@ impl From<Refusal> for Fault {
     }
 }
 
+// The largest limit, and what a run has room for: so many operators, sets held and bindings in force at once.
+const MOST_LIMIT: u16 = 4096;
+
+const MOST_OPERATORS: usize = 64;
+
+const MOST_SETS: usize = 14;
+
+const MOST_BINDINGS: usize = 4;
+
 // The rows of an E line, and its goal.
-pub fn judge_expression(names: &Names, group: Group, limit: u16, t: Part) -> Result<Goal, Fault>
-    requires within { Within names.now.file.now t }
-    requires short { length names.now.file.now ≤ 32768 }
-    requires few_tables { names.now.counts.tables ≤ 16 }
-    ensures { (d : Declared) → NamesStand names.now d → d.group ≡ group_number group → GoalJudged d limit (text_of names.now.file.now t) result }
+pub fn judge_expression(names: &Names, group: Group, limit: u16, t: &[u8]) -> Result<Goal, Fault>
+    ensures { (d : Declared) → NamesStand names.now d → d.group ≡ group_number group → GoalJudged d limit t.now result }
 {
-    in_turn(group, Group::Expression, names.counts)?;
-    if 4096 < limit {
+    in_turn(group, Group::Expression, names.counts())?;
+    if MOST_LIMIT < limit {
         return Err(Fault::from(Refusal::TooMany));
     }
-    let nodes = match read(t.text(names.file), names) {
+    let nodes = match read(t, names) {
         Ok(nodes) => nodes,
         Err(place) => {
             return Err(Fault {
@@ -66,16 +70,15 @@ pub fn judge_expression(names: &Names, group: Group, limit: u16, t: Part) -> Res
             place,
         });
     }
-    let too_many = 64 < nodes.operators;
+    let too_many = MOST_OPERATORS < nodes.operators;
     if too_many {
         return Err(Fault::from(Refusal::TooLarge));
     }
-    let tree = &nodes.nodes[..nodes.used];
-    let held = sets_held(tree);
-    if 14 < held.sets {
+    let held = sets_held(nodes.nodes.as_slice());
+    if MOST_SETS < held.sets {
         return Err(Fault::from(Refusal::TooLarge));
     }
-    if 4 < held.bindings {
+    if MOST_BINDINGS < held.bindings {
         return Err(Fault::from(Refusal::TooManyBindings));
     }
     Ok(Goal { limit, nodes })

@@ -11,13 +11,14 @@ use algebra::{Joiner, Scope};
 
 // A node: a table by its number, `+`, `&` or `-`, `o`, a scope, a closure by a rule set, or a template `(t:x.E)(F)`, after E's nodes and then F's.
 // Within E x is table 0, and table n + 1 is table n outside.
-#[derive(Clone, Copy, PartialEq, Eq)]
+#[derive(Clone, Copy, PartialEq, Eq, Default)]
 pub enum Node {
     Table(u8),
     Join(Joiner),
     Override,
     Scope(Scope),
     Closure(u8),
+    #[default]
     Template,
 }
 

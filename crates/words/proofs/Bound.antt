@@ -1,41 +1,27 @@
--- Bound names: a table's node by them, and one more before those that there are. Assumes nothing.
-use Rattle.std.proofs.Common.{◌≡◌, refl, sym, ap, ◌∙◌, Bool, true, false, ◌&&◌, List, [], ◌∷◌, ℕ, zero, suc, ◌+◌, ◌≤◌, ◌<◌, leb, is_some, arith}
-use Rattle.std.proofs.Common.{length, get_or, drop, drop-cons, add-one}
+-- A table's node, by the bound names. Assumes nothing.
+use Rattle.std.proofs.Common.{◌≡◌, refl, sym, ap, ◌∙◌, Bool, true, false, ◌&&◌, List, [], ◌∷◌, ℕ, zero, suc, ◌+◌, ◌≤◌, ◌<◌, eqb, is_some, arith}
+use Rattle.std.proofs.Common.{cond, ltb, map, reverse, length, add-one}
 use Rattle.std.proofs.Math.Option.{Option, none, some}
-use Rattle.std.proofs.lemmas.Bool.{false≢true}
-use Rattle.std.proofs.lemmas.List.{drop_all}
-use Rattle.algebra.proofs.Lists.{length_tab_from}
+use Rattle.std.specs.Prelude as rust
+use Rattle.std.specs.Borrow.{Bor}
+use Rattle.std.specs.List.{position_or_len}
+use Rattle.std.specs.List as searches
+use Rattle.std.proofs.lemmas.List.{length-map, length-reverse}
+use Rattle.std.proofs.lemmas.Iterator.Adapters.{position_from-zero}
+use Rattle.arrayvec.specs.ArrayVec.{array_vec_len}
+use Rattle.algebra.specs.Meant.{found_of}
 use Rattle.grammar.specs.Names.{Kind, table}
 use Rattle.grammar.specs.Lookup.{same, position_from, position, place}
 use Rattle.grammar.specs.Tree.{table_of}
 use Rattle.grammar.proofs.Lookup.{from_lt, position_lt}
-use Rattle.name_index.specs.Parts.{name_at, names_at, Parts, InText}
-use Rattle.name_index.specs.declared.Place.{Place}
-use Rattle.names.specs.Entries.{entry_at, entries, is_entry, table_base}
-use Rattle.names.specs.Entries.{lookup_in}
+use Rattle.names.proofs.Bounds.{looked_lt}
 use Rattle.names.specs.Looks.{lookup_of}
 use Rattle.names.specs.declared.table.Names.{Names}
 use Rattle.nodes.specs.declared.Node.TheVariants.{Table}
-use Rattle.words.specs.Cells.{operators_after, stored, noted, bound_as, emit_table}
-use Rattle.words.specs.Contract.{Bound}
+use Rattle.words.specs.Cells.{most_nodes, operators_after, stored, noted, bound_as, emit_table}
+use Rattle.words.specs.Contract.{innermost_first}
 use Rattle.words.specs.declared.Nodes.{Nodes}
 use Rattle.words.proofs.Puts.{settled_stored}
-
--- ---- one bound name more
-module _ (t : List ℕ) (p : Place) (ps : List Place) (allow : ℕ) (B : Bound t ps (allow + 1)) where
-  parts_more : InText t p → Parts t (p ∷ ps)
-  parts_more h zero l = h
-  parts_more h (suc i) l = B.parts i (omega arith)
-
-  pub bound_more : InText t p → Bound t (p ∷ ps) allow
-  bound_more h = record { parts = parts_more h; few = omega (arith, B.few) }
-
-pub none_bound : (t : List ℕ) (allow : ℕ) → allow ≤ 32 → Bound t [] allow
-none_bound t allow h = record { parts = λ i l. absurd (omega arith); few = omega arith }
-
--- fewer brackets may be opened
-pub bound_fewer : {t : List ℕ} {ps : List Place} (allow fewer : ℕ) → Bound t ps allow → fewer ≤ allow → Bound t ps fewer
-bound_fewer allow fewer B l = record { parts = B.parts; few = omega (arith, B.few) }
 
 -- ---- a table's node
 module _ (number : Kind → List ℕ → Option ℕ) (n : List ℕ) where
@@ -73,55 +59,12 @@ module _ (number : Kind → List ℕ → Option ℕ) (n : List ℕ) where
       go rest true q = absurd (let z : ◌≡◌ {A = ℕ} 0 1 = cc in omega arith)
       go rest false q = let r = rest q in (omega (arith, r.0), r.1)
 
--- ---- a search of the bound names
-module _ (p : List ℕ → Bool) (i : ℕ) (x : List ℕ) (xs : List (List ℕ)) where
-  from_found : p x ≡ true → position_from i p (x ∷ xs) ≡ some i
-  unfolding position_from
-  from_found h = go (p x) h
-    where
-      go : (b : Bool) → b ≡ true → ◌≡◌ {A = Option ℕ} (elim b [ true ↦ some i | false ↦ position_from (suc i) p xs ]) (some i)
-      go true e = refl
-      go false e = absurd (false≢true e)
-
-  from_next : p x ≡ false → position_from i p (x ∷ xs) ≡ position_from (suc i) p xs
-  unfolding position_from
-  from_next h = go (p x) h
-    where
-      go : (b : Bool) → b ≡ false → ◌≡◌ {A = Option ℕ} (elim b [ true ↦ some i | false ↦ position_from (suc i) p xs ]) (position_from (suc i) p xs)
-      go true e = absurd (false≢true (sym e))
-      go false e = refl
-
-module _ (t n : List ℕ) (ps : List Place) where
-  -- the loop's invariant: none of the names before i is the one
-  abbrev pub Looking : ℕ → Type 0
-  Looking i = position (same n) (names_at t ps) ≡ position_from i (same n) (names_at t (drop i ps))
-
-  pub look_first : Looking 0
-  unfolding position
-  look_first = refl
-
-  module _ (i : ℕ) (x : Looking i) where
-    opened : (d : Place) → i < length ps
-        → position (same n) (names_at t ps) ≡ position_from i (same n) (name_at t (get_or ps i d) ∷ names_at t (drop (suc i) ps))
-    opened d l = x ∙ ap (λ (qs : List Place). position_from i (same n) (names_at t qs)) (drop-cons ps i d l)
-
-    pub look_found : (d : Place) → i < length ps → {b : Bool} → b ≡ same n (name_at t (get_or ps i d)) → b ≡ true
-        → some i ≡ position (same n) (names_at t ps)
-    look_found d l e h = sym (opened d l ∙ from_found (same n) i _ _ (sym e ∙ h))
-
-    pub look_next : (d : Place) → i < length ps → {b : Bool} → b ≡ same n (name_at t (get_or ps i d)) → b ≡ false → Looking (i + 1)
-    look_next d l e h = rw add-one (opened d l ∙ from_next (same n) i _ _ (sym e ∙ h))
-
-    pub look_end : length ps ≤ i → none ≡ position (same n) (names_at t ps)
-    unfolding position_from
-    look_end h = sym (x ∙ ap (λ (qs : List Place). position_from i (same n) (names_at t qs)) (drop_all i ps h))
-
 -- a bound name's number is small
 pub bound_lt : (n : List ℕ) (xs : List (List ℕ)) (i : ℕ) → some i ≡ position (same n) xs → i < length xs
 bound_lt n xs i e = position_lt (same n) xs i (sym e)
 
 module _ (xs : List (List ℕ)) (number : Kind → List ℕ → Option ℕ) (n : List ℕ) (i : ℕ) (p : Nodes) where
-  pub settled_table : (leb 193 p.used && is_some p.missing) ≡ true → stored p (Table 0) ≡ emit_table number xs n i p
+  pub settled_table : (eqb (array_vec_len p.nodes) most_nodes && is_some p.missing) ≡ true → stored p (Table 0) ≡ emit_table number xs n i p
   unfolding emit_table operators_after
   settled_table s = settled_stored (bound_as number xs n) i p (Table 0) (Table (table_of number xs n)) (λ j. refl) s
 
@@ -147,12 +90,35 @@ module _ (xs : List (List ℕ)) (number : Kind → List ℕ → Option ℕ) (n :
         rw (d, m)
 
 -- a table's number is small
-pub table_fits : (names : Names) (n : List ℕ) → names.counts.tables ≤ 16 → {v : Option ℕ} {k : ℕ} → v ≡ lookup_of names table n → k ≡ place v → k ≤ 16
-unfolding lookup_in place
-table_fits names n few {v} {k} e h = go v e h
+pub table_fits : (names : Names) (n : List ℕ) → {v : Option ℕ} {k : ℕ} → v ≡ lookup_of names table n → k ≡ place v → k ≤ 16
+unfolding place
+table_fits names n {v} {k} e h = go v e h
   where
     go : (v : Option ℕ) → v ≡ lookup_of names table n → k ≡ place v → k ≤ 16
     go none q z = omega arith
-    go (some i) q z =
-        let l = position_lt (is_entry none n) (entries names.file.now names.entries.now table_base names.counts.tables) i (sym q) in
-        omega (arith, length_tab_from table_base names.counts.tables (entry_at names.file.now names.entries.now))
+    go (some i) q z = omega (arith, looked_lt names table n (sym q), names.few_tables)
+
+-- as many as there are
+pub many_bound : (bs : List (Bor (List ℕ))) → length (innermost_first bs) ≡ length bs
+many_bound bs = length-map (reverse bs) (λ x. x.now) ∙ length-reverse bs
+
+-- ---- a search of the bound names
+module _ (n : List ℕ) where
+  from_place : (i : ℕ) (bs : List (Bor (List ℕ)))
+      → found_of (searches.position_from (λ x. same n x.now) i bs) ≡ position_from i (same n) (map (λ x. x.now) bs)
+  unfolding position_from
+  from_place i [] = refl
+  from_place i (b ∷ bs) = go (same n b.now) (from_place (suc i) bs)
+    where
+      go : (t : Bool) → found_of (searches.position_from (λ x. same n x.now) (suc i) bs) ≡ position_from (suc i) (same n) (map (λ x. x.now) bs)
+          → found_of (cond t (rust.Some i) (searches.position_from (λ x. same n x.now) (i + 1) bs))
+          ≡ elim t [ true ↦ some i | false ↦ position_from (suc i) (same n) (map (λ x. x.now) bs) ]
+      go true e = refl
+      go false e = rw add-one e
+
+  -- what a search by a closure finds
+  pub place_found : (bs : List (Bor (List ℕ))) {r : rust.Option ℕ}
+      → r ≡ cond (ltb (position_or_len (λ x. same n x.now) bs) (length bs)) (rust.Some (position_or_len (λ x. same n x.now) bs)) rust.None
+      → found_of r ≡ position (same n) (map (λ x. x.now) bs)
+  unfolding position
+  place_found bs e = ap found_of (e ∙ position_from-zero (λ x. same n x.now) bs) ∙ from_place 0 bs

@@ -1,31 +1,36 @@
 -- The ways through the code that puts a node. Assumes nothing.
-use Rattle.std.proofs.Common.{◌≡◌, refl, sym, ap, ◌∙◌, true, ◌&&◌, List, ℕ, ◌+◌, ◌≤◌, ◌<◌, leb, is_some, set}
+use Rattle.std.proofs.Common.{◌≡◌, refl, sym, ap, ◌∙◌, true, ◌&&◌, List, [], ◌∷◌, ◌++◌, ℕ, ◌≤◌, ◌<◌, eqb, is_some, arith}
 use Rattle.std.specs.Prelude as rust
 use Rattle.std.proofs.Math.Option.{Option, none, some}
 use Rattle.std.proofs.lemmas.Bool.{false≢true}
-use borrow.Author.Tests.{lt-ltb, le-ltb, leb-true}
+use borrow.Author.Tests.{lt-ltb, le-ltb, eqb-true}
 use Rattle.algebra.proofs.Bool.{and_left, and_right}
+use Rattle.arrayvec.specs.ArrayVec.{ArrayVec, array_vec_len}
 use Rattle.grammar.specs.Names.{Kind}
 use Rattle.grammar.specs.Lookup.{place}
-use Rattle.words.specs.Cells.{counted_to, operators_after, stored, first_place, noted, asked_as, node_with, emit_name}
+use Rattle.words.specs.Cells.{most_nodes, operators_after, stored, first_place, noted, asked_as, node_with, emit_name}
 use Rattle.nodes.specs.declared.Node.{Node}
 use Rattle.words.specs.declared.Suffix.{Suffix}
 use Rattle.words.specs.declared.Suffix.TheVariants.{Comparing, Marking, Closing}
 use Rattle.words.specs.declared.Nodes.{Nodes}
 
-module _ (p : Nodes) (n : Node) {o : ℕ} (z : o ≡ operators_after p.operators n) where
-  pub put_stored : p.used < 193 → ◌≡◌ {A = Nodes} (record { nodes = set p.nodes p.used n; used = p.used + 1; operators = o; missing = p.missing }) (stored p n)
-  unfolding stored counted_to
-  put_stored l = rw (z, lt-ltb p.used 193 l)
+module _ (p : Nodes) (n : Node) (o : ℕ) where
+  pub put_stored : (v : ArrayVec Node) → array_vec_len p.nodes < 193 → v.items ≡ p.nodes.items ++ n ∷ [] → o ≡ operators_after p.operators n
+      → ◌≡◌ {A = Nodes} (record { nodes = v; operators = o; missing = p.missing }) (stored p n)
+  unfolding stored
+  put_stored v l i z =
+      let w : v ≡ record { items = p.nodes.items ++ n ∷ [] } = ap (λ (xs : List Node). record { items = xs }) i in
+      rw (z, lt-ltb (array_vec_len p.nodes) 193 l, w)
 
-  pub full_stored : 193 ≤ p.used → ◌≡◌ {A = Nodes} (record { nodes = p.nodes; used = p.used; operators = o; missing = p.missing }) (stored p n)
-  unfolding stored counted_to
-  full_stored l = rw (z, le-ltb p.used 193 l)
+  pub full_stored : 193 ≤ array_vec_len p.nodes → o ≡ operators_after p.operators n
+      → ◌≡◌ {A = Nodes} (record { nodes = p.nodes; operators = o; missing = p.missing }) (stored p n)
+  unfolding stored
+  full_stored l z = rw (z, le-ltb (array_vec_len p.nodes) 193 l)
 
 -- where there is no room, only the operators are counted
-same_full : (p : Nodes) (n m : Node) → ((i : ℕ) → operators_after i n ≡ operators_after i m) → 193 ≤ p.used → stored p n ≡ stored p m
-unfolding stored counted_to
-same_full p n m e l = rw (le-ltb p.used 193 l, e p.operators)
+same_full : (p : Nodes) (n m : Node) → ((i : ℕ) → operators_after i n ≡ operators_after i m) → array_vec_len p.nodes ≡ 193 → stored p n ≡ stored p m
+unfolding stored
+same_full p n m e l = rw (le-ltb (array_vec_len p.nodes) 193 (omega arith), e p.operators)
 
 -- where a name is missing already, whatever number the next one has
 settled_is : (o : Option ℕ) (i : ℕ) (p : Nodes) → is_some p.missing ≡ true → noted o i p ≡ p
@@ -34,20 +39,17 @@ settled_is (some m) i p e = refl
 settled_is none i p e = go p.missing refl e
   where
     go : (m : rust.Option ℕ) → p.missing ≡ m → is_some m ≡ true
-        → ◌≡◌ {A = Nodes} record { nodes = p.nodes; used = p.used; operators = p.operators; missing = first_place p.missing i } p
+        → ◌≡◌ {A = Nodes} record { nodes = p.nodes; operators = p.operators; missing = first_place p.missing i } p
     go (rust.Some j) q h = rw q
     go rust.None q h = absurd (false≢true h)
 
 -- once all is settled, a name changes nothing
 pub settled_stored : (o : Option ℕ) (i : ℕ) (p : Nodes) (n m : Node) → ((j : ℕ) → operators_after j n ≡ operators_after j m)
-    → (leb 193 p.used && is_some p.missing) ≡ true → stored p n ≡ stored (noted o i p) m
+    → (eqb (array_vec_len p.nodes) most_nodes && is_some p.missing) ≡ true → stored p n ≡ stored (noted o i p) m
 settled_stored o i p n m e s =
-    let full = leb-true 193 p.used (and_left (leb 193 p.used) (is_some p.missing) s) in
-    same_full p n m e full ∙ ap (λ (q : Nodes). stored q m) (sym (settled_is o i p (and_right (leb 193 p.used) (is_some p.missing) s)))
-
--- a lookup, by what the kind and the name are
-pub looked : (number : Kind → List ℕ → Option ℕ) {v : Option ℕ} {k k' : Kind} {n n' : List ℕ} → v ≡ number k n → k ≡ k' → n ≡ n' → v ≡ number k' n'
-looked number {v} {k} {k'} {n} e q r = e ∙ ap (λ (i : Kind). number i n) q ∙ ap (number k') r
+    let full = eqb-true (array_vec_len p.nodes) 193 (and_left (eqb (array_vec_len p.nodes) 193) (is_some p.missing) s) in
+    same_full p n m e full
+    ∙ ap (λ (q : Nodes). stored q m) (sym (settled_is o i p (and_right (eqb (array_vec_len p.nodes) 193) (is_some p.missing) s)))
 
 suffix_operators : (x : Suffix) (n m i : ℕ) → operators_after i (node_with x n) ≡ operators_after i (node_with x m)
 unfolding operators_after
@@ -56,7 +58,7 @@ suffix_operators (Marking s) n m i = refl
 suffix_operators Closing n m i = refl
 
 module _ (number : Kind → List ℕ → Option ℕ) (x : Suffix) (n : List ℕ) (i : ℕ) (p : Nodes) where
-  pub settled_named : (leb 193 p.used && is_some p.missing) ≡ true → stored p (node_with x 0) ≡ emit_name number x n i p
+  pub settled_named : (eqb (array_vec_len p.nodes) most_nodes && is_some p.missing) ≡ true → stored p (node_with x 0) ≡ emit_name number x n i p
   unfolding emit_name
   settled_named s = settled_stored (number (asked_as x) n) i p _ _ (suffix_operators x 0 _) s
 

@@ -1,14 +1,15 @@
-use Rattle.words.proofs.Bound.{look_first, look_found, look_next, look_end}
+use Rattle.std.proofs.Common.{◌≡◌, rules, tests, nat_eq, reverse}
+use Rattle.std.proofs.lemmas.Iterator.Adapters.{YieldsList-from_rev_slice}
+use Rattle.std.proofs.lemmas.Iterator.Search.{position_from_yields_List}
+use Rattle.std.specs.Cmp.Lexicographic.{pointwise}
+use Rattle.grammar.specs.Lookup.{same}
+use Rattle.name_index.proofs.Same.{same_is}
+use Rattle.words.proofs.Bound.{place_found}
 use Rattle.words.proofs.bound_at.Goals as goal
 
-pub loop-i-init : goal.loop-i-init
-loop-i-init c = look_first _ _ _
-
-pub returns-then-is_name : goal.returns-then-is_name
-returns-then-is_name c = look_found _ _ _ _ c.loop-i.invariant _ c.loop-i-test.true c.is_name.ensures c.if-is_name.true
-
-pub loop-i-preserved : goal.loop-i-preserved
-loop-i-preserved c = look_next _ _ _ _ c.loop-i.invariant _ c.loop-i-test.true c.is_name.ensures c.if-is_name.false
-
 pub returns : goal.returns
-returns c = look_end _ _ _ _ c.loop-i.invariant c.loop-i-test.false
+returns c =
+    let n = c.args.name.now in
+    place_found n (reverse c.args.bound.now)
+    (position_from_yields_List (λ x. same n x.now) _ _ c.position.result c.position.ensures.ran (YieldsList-from_rev_slice c.args.bound.now cc)
+    (λ x b q k. let h : (q ≡ _) × (b ≡ pointwise nat_eq n x.now.now) = search (rules, tests) in (h.0, same_is _ _ h.1)))

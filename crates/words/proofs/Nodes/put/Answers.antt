@@ -1,8 +1,7 @@
-use Rattle.words.proofs.Puts.{put_stored, full_stored}
+-- `words::Nodes::put` meets its contract. The answer does not say which call adds the node, so that a wrong one is refused by what it does.
+use Rattle.std.proofs.Common.{rules}
+use Rattle.words.proofs.Puts.{put_stored}
 use Rattle.words.proofs.Nodes.put.Goals as goal
 
-pub returns-then-self-lt193 : goal.returns-then-self-lt193
-returns-then-self-lt193 c = put_stored c.args.self.now c.args.node c.operators_after-self.ensures c.if-self-lt193.true
-
-pub returns-else-self-lt193 : goal.returns-else-self-lt193
-returns-else-self-lt193 c = full_stored c.args.self.now c.args.node c.operators_after-self.ensures c.if-self-lt193.false
+pub returns-then-not-is_full : goal.returns-then-not-is_full
+returns-then-not-is_full c = put_stored _ _ _ _ (search rules) (search rules) (search rules)

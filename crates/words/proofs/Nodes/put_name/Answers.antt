@@ -1,8 +1,7 @@
 use Rattle.std.proofs.Common.{sym, ap, ◌∙◌}
-use Rattle.name_index.proofs.Same.{part_is}
 use Rattle.names.specs.Looks.{lookup_of}
 use Rattle.words.specs.Cells.{stored}
-use Rattle.words.proofs.Puts.{settled_named, looked, named_stored}
+use Rattle.words.proofs.Puts.{settled_named, named_stored}
 use Rattle.words.proofs.Nodes.put_name.Goals as goal
 
 pub returns-then-is_settled : goal.returns-then-is_settled
@@ -11,8 +10,7 @@ returns-then-is_settled c =
 
 pub returns : goal.returns
 returns c =
-    let x = c.args.x in
-    let found = looked (lookup_of c.args.source.now.names.now) c.look-found.ensures c.kind.ensures
-    (part_is x.from x.to c.args.source.now.text.now c.requires.0) in
+    let names = c.args.names.now in
     c.put-2.ensures ∙ ap (stored c.note-number.new.self) c.node-2.ensures
-    ∙ named_stored _ _ _ _ _ found c.note-number.ensures.after c.note-number.ensures.value
+    ∙ named_stored _ _ _ _ _ (c.look-found.ensures ∙ ap (λ k. lookup_of names k c.args.name.now) c.kind.ensures) c.note-number.ensures.after
+    c.note-number.ensures.value

@@ -1,41 +1,36 @@
 -- The measures of the readers of an expression's parts, which call each other: the brackets that may be opened fall,
 -- and within one bracket the calls are in order. And what the loop of `more` keeps.
 use Rattle.std.proofs.Common.{◌+◌, ◌*◌, ◌-◌, length}
-use Rattle.name_index.specs.Parts.{names_at}
-use Rattle.names.specs.Looks.{lookup_of}
+use Rattle.expressions.proofs.Goes.{Goes}
 use Rattle.words.specs.Contract.{ReadsMore}
-use Rattle.expressions.proofs.+body_expression_factor_filling_more_overridden_part_primary_template.Given as goal
-
-abbrev pub decreases-body : goal.decreases-body
-decreases-body l = 8 * l.allow + 6
+use Rattle.expressions.proofs.text_reader.Reader.+parts.Given as goal
 
 abbrev pub decreases-expression : goal.decreases-expression
-decreases-expression l = 8 * l.allow + 3
+decreases-expression l = 8 * l.self.now.allow + 3
 
 abbrev pub decreases-factor : goal.decreases-factor
-decreases-factor l = 8 * l.allow + 1
+decreases-factor l = 8 * l.self.now.allow + 1
 
 abbrev pub decreases-filling : goal.decreases-filling
-decreases-filling l = 8 * l.allow + 6
+decreases-filling l = 8 * l.self.now.allow + 5
 
 abbrev pub decreases-more : goal.decreases-more
-decreases-more l = 8 * l.allow + 2
+decreases-more l = 8 * l.self.now.allow + 2
 
 abbrev pub decreases-overridden : goal.decreases-overridden
-decreases-overridden l = 8 * l.allow + 5
+decreases-overridden l = 8 * l.self.now.allow + 5
 
 abbrev pub decreases-part : goal.decreases-part
-decreases-part l = 8 * l.allow + 4
+decreases-part l = 8 * l.self.now.allow + 4
 
 abbrev pub decreases-primary : goal.decreases-primary
-decreases-primary l = 8 * l.allow
+decreases-primary l = 8 * l.self.now.allow
 
 abbrev pub decreases-template : goal.decreases-template
-decreases-template l = 8 * l.allow + 7
+decreases-template l = 8 * l.self.now.allow + 6
 
 abbrev pub invariant-more-loop-joiner : goal.invariant-more-loop-joiner
-invariant-more-loop-joiner l =
-    ReadsMore (lookup_of l.source.names.now) (names_at l.source.text.now l.bound) l.source.text.now l.initial.i l.allow l.i l.initial.nodes l.nodes
+invariant-more-loop-joiner l = Goes ReadsMore l.initial.self l.self
 
 abbrev pub decreases-more-loop-joiner : goal.decreases-more-loop-joiner
-decreases-more-loop-joiner l = length l.source.text.now - l.i
+decreases-more-loop-joiner l = length l.self.text.now - l.self.at

@@ -1,0 +1,2 @@
+-- What the contracts of the reader's methods say.
+pub mod Reads
