@@ -7,7 +7,7 @@ use native.Mathlib.Omega.{arith}
 use lib.ListN.{length, take}
 use lib.Dec.{leb}
 use borrow.Author.Tests.{le-leb, lt-leb}
-use Rattle.names.specs.Entries.{counts_of}
+use Rattle.names.specs.Looks.{counts_of}
 use Rattle.algebra.specs.Bytes.{cleared, written, tally}
 use Rattle.algebra.specs.Policy.{accesses}
 use Rattle.algebra.specs.StoredFrame.{total}
@@ -53,7 +53,7 @@ module _ (f r m : List ℕ) where
     -- ---- an accepted file, whose grants the reading left in w
 
     module _ (w : List ℕ) (long : length w ≡ length m) (q : Reading) (G : ReadGood f (grants_part w) q)
-        (n : ℕ) (is-count : n ≡ total (counts_of q.state.counts)) where
+        (n : ℕ) (is-count : n ≡ total (counts_of q.state.names)) where
       few : n ≤ 4096
       few = subst (λ (k : ℕ). k ≤ 4096) (sym is-count) (total_low f w q G)
 

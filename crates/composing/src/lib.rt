@@ -6,7 +6,6 @@ ghost use Rattle.algebra.specs.Bytes.{cleared};
 ghost use Rattle.engine.specs.Calls as Calls;
 ghost use Rattle.composing.specs.Composition.{composed_of};
 
-use algebra::Counts;
 use composer::accesses;
 use rows::Refused;
 use running::{read_within, run_policy};
@@ -28,7 +27,7 @@ pub fn compose_within(f: &[u8], res: &mut [u8], w: &mut [u8]) -> Result<Composed
     ensures w_unchanged { cleared w.new ≡ cleared w.old }
 {
     let read = read_within(f, w)?;
-    let n = accesses(Counts::from(read.state.counts));
+    let n = accesses(read.state.names.counts());
     let rounds = run_policy(w, &read);
     copy(w, res, n);
     let permits = count(w, n, 2);

@@ -4,7 +4,7 @@ use mathlib.Core.List.{List}
 use Prim.Native.Nat.{ℕ}
 use Rattle.algebra.specs.Sort.{Sort, subject, object, action}
 use Rattle.algebra.specs.Policy.{members}
-use Rattle.names.specs.Entries.{member_count}
+use Rattle.names.specs.Looks.{member_count}
 use Rattle.reader.specs.Declarations.{count}
 use Rattle.reader.specs.File.{refused, read_file, policy_of, frame_of}
 use Rattle.reader.proofs.Members.{file_sane}
@@ -19,18 +19,18 @@ unfolding check checked
 check_no f k l p e = ap checked (sym e)
 
 -- the frame's members are those that the state counts
-pub counted : (f w : List ℕ) (r : Reading) (G : ReadGood f w r) (σ : Sort) → members (frame_of G.declared) σ ≡ member_count r.state.counts σ
+pub counted : (f w : List ℕ) (r : Reading) (G : ReadGood f w r) (σ : Sort) → members (frame_of G.declared) σ ≡ member_count r.state.names σ
 unfolding policy_of count
 counted f w r G σ = (file_sane f _ G.outcome).counted σ
-    ∙ count_is f r.state.entries r.state.counts G.declared G.stands.names σ
+    ∙ count_is r.state.names G.declared G.stands.names σ
 
 pub check_yes : (f w : List ℕ) (r : Reading) → ReadGood f w r → record {
   number = 0;
   line = 0;
   place = 0;
-  subjects = r.state.counts.subjects;
-  objects = r.state.counts.objects;
-  actions = r.state.counts.actions;
+  subjects = member_count r.state.names subject;
+  objects = member_count r.state.names object;
+  actions = member_count r.state.names action;
 } ≡ check f
 unfolding check checked policy_of
 check_yes f w r G = rw (← counted f w r G subject, ← counted f w r G object, ← counted f w r G action) (ap checked (sym G.outcome))

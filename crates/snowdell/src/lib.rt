@@ -24,7 +24,7 @@ pub fn check(f: &[u8]) -> Result<Counts, Refused>
 {
     let mut w = [0u8; 8192];
     let read = read_policy(f, &mut w)?;
-    Ok(Counts::from(read.state.counts))
+    Ok(read.state.names.counts())
 }
 
 // ---- Compose and Decide. Row 1 comes first; all else is done in buffers that are large enough, and the memory is cleared once for every way out.

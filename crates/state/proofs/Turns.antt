@@ -9,8 +9,8 @@ use Rattle.std.specs.Prelude as rust
 use Rattle.std.specs.Ordering.{partial_lt, partial_le}
 use Rattle.std.proofs.Common.{rules}
 use Rattle.algebra.specs.Sort.{Sort, subject, object, action}
-use Rattle.names.specs.Entries.{member_count}
-use Rattle.names.specs.declared.NameCounts.{NameCounts}
+use Rattle.algebra.specs.StoredFrame.{size_of}
+use Rattle.algebra.specs.declared.Counts.{Counts}
 use Rattle.reader.specs.Line.{Line}
 use Rattle.reader.specs.Declarations.{Declared, count, group_of}
 use Rattle.reader.specs.Rows.{first, rows, out_of_order, without_rule, bad_counts}
@@ -71,21 +71,21 @@ turn_ok true counts e = cc
 turn_ok false true e = cc
 turn_ok false false e = (refl, refl)
 
-module _ (c : NameCounts) (d : Declared) (cs : (σ : Sort) → member_count c σ ≡ count d σ) (group : ℕ) (g : d.group ≡ group)
+module _ (n : Counts) (d : Declared) (cs : (σ : Sort) → size_of n σ ≡ count d σ) (group : ℕ) (g : d.group ≡ group)
     (l : Line) (k : ℕ) (e : group_of l ≡ k) (w : without_rule d.rules l ≡ false) where
   pub in_order : {b : Bool} → late_of group k ≡ b → out_of_order d l ≡ b
   in_order h = late_is d l k e w ∙ ap (λ (x : ℕ). late_of x k) g ∙ h
 
-  pub counted : {b : Bool} → bad_counts_of group k c.subjects c.objects c.actions ≡ b → bad_counts d l ≡ b
+  pub counted : {b : Bool} → bad_counts_of group k n.subjects n.objects n.actions ≡ b → bad_counts d l ≡ b
   counted h =
-      counts_are d l k c.subjects c.objects c.actions e (cs subject) (cs object) (cs action)
-      ∙ ap (λ (x : ℕ). bad_counts_of x k c.subjects c.objects c.actions) g ∙ h
+      counts_are d l k n.subjects n.objects n.actions e (cs subject) (cs object) (cs action)
+      ∙ ap (λ (x : ℕ). bad_counts_of x k n.subjects n.objects n.actions) g ∙ h
 
-  pub turned_down : {r : Refusal} → turn_of (late_of group k) (bad_counts_of group k c.subjects c.objects c.actions) ≡ rust.Err r
+  pub turned_down : {r : Refusal} → turn_of (late_of group k) (bad_counts_of group k n.subjects n.objects n.actions) ≡ rust.Err r
       → first (rows d l) ≡ refusal_of r
-  turned_down {r} h = go (late_of group k) refl (bad_counts_of group k c.subjects c.objects c.actions) refl h
+  turned_down {r} h = go (late_of group k) refl (bad_counts_of group k n.subjects n.objects n.actions) refl h
     where
-      go : (late : Bool) → late_of group k ≡ late → (counts : Bool) → bad_counts_of group k c.subjects c.objects c.actions ≡ counts
+      go : (late : Bool) → late_of group k ≡ late → (counts : Bool) → bad_counts_of group k n.subjects n.objects n.actions ≡ counts
           → turn_of late counts ≡ rust.Err r → first (rows d l) ≡ refusal_of r
       go true p counts q h = let x : OutOfOrder ≡ r = cc in meets_4 d l (in_order p) ∙ ap refusal_of x
       go false p true q h = let x : BadCounts ≡ r = cc in meets_8 d l (in_order p) (counted q) ∙ ap refusal_of x

@@ -15,7 +15,7 @@ pub copy-requires : goal.copy-requires
 copy-requires c =
     let a = c.args in
     let G = c.in_ok-read.ensures.read_as in
-    let n = c.accesses-n.ensures ∙ ap total c.from.ensures in (
+    let n = c.accesses-n.ensures ∙ ap total c.counts.ensures in (
       in_memory a.f.now a.res.now a.w.now c.requires.0 c.requires.1 _ c.read_within.auto.w _ G _ n _ c.run_policy-rounds.auto.w,
       in_result a.f.now a.res.now a.w.now c.requires.0 c.requires.1 _ c.read_within.auto.w _ G _ n,
     )
@@ -24,19 +24,19 @@ pub count-permits-requires : goal.count-permits-requires
 count-permits-requires c =
     let a = c.args in
     in_memory a.f.now a.res.now a.w.now c.requires.0 c.requires.1 _ c.read_within.auto.w _ c.in_ok-read.ensures.read_as _
-    (c.accesses-n.ensures ∙ ap total c.from.ensures) _ c.run_policy-rounds.auto.w
+    (c.accesses-n.ensures ∙ ap total c.counts.ensures) _ c.run_policy-rounds.auto.w
 
 pub count-undecided-requires : goal.count-undecided-requires
 count-undecided-requires c =
     let a = c.args in
     in_memory a.f.now a.res.now a.w.now c.requires.0 c.requires.1 _ c.read_within.auto.w _ c.in_ok-read.ensures.read_as _
-    (c.accesses-n.ensures ∙ ap total c.from.ensures) _ c.run_policy-rounds.auto.w
+    (c.accesses-n.ensures ∙ ap total c.counts.ensures) _ c.run_policy-rounds.auto.w
 
 pub returns-clause-w_after : goal.returns-clause-w_after
 returns-clause-w_after c =
     let a = c.args in
     let G = c.in_ok-read.ensures.read_as in
-    read_all a.f.now a.res.now a.w.now c.requires.0 c.requires.1 _ c.read_within.auto.w _ G _ (c.accesses-n.ensures ∙ ap total c.from.ensures)
+    read_all a.f.now a.res.now a.w.now c.requires.0 c.requires.1 _ c.read_within.auto.w _ G _ (c.accesses-n.ensures ∙ ap total c.counts.ensures)
     _ _ (c.run_policy-rounds.ensures a.f.now G) _ _ _ c.copy.ensures c.count-permits.ensures c.count-undecided.ensures
 
 pub returns-clause-w_unchanged : goal.returns-clause-w_unchanged

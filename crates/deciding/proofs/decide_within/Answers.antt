@@ -16,20 +16,20 @@ returns-in_err-at-clause-w_value c =
     let a = c.args in
     let G = c.in_ok-read.ensures.read_as in
     let p = err_from_is_err_and c.from_residual-in_err-at.result c.from_residual-in_err-at.ensures.1 in
-    rw (p.1, p.2) (unknown_read a.f.now a.s.now a.o.now a.a.now a.w.now c.requires c.read_within.new.w _ G _ (c.names.ensures.stand _ _ G.stands) _ c.in_err-at.ensures _ refl)
+    rw (p.1, p.2) (unknown_read a.f.now a.s.now a.o.now a.a.now a.w.now c.requires c.read_within.new.w _ G _ c.in_err-at.ensures _ refl)
 
 pub bounds-w-at : goal.bounds-w-at
 bounds-w-at c =
     let a = c.args in
     let G = c.in_ok-read.ensures.read_as in
-    known_fits a.f.now a.s.now a.o.now a.a.now a.w.now c.requires c.read_within.new.w _ G _ (c.names.ensures.stand _ _ G.stands) _ c.in_ok-at.ensures _ refl c.names.ensures.parts.3
+    known_fits a.f.now a.s.now a.o.now a.a.now a.w.now c.requires c.read_within.new.w _ G _ c.in_ok-at.ensures _ refl
     _ (subst (λ n. 65536 ≤ n) (sym (c.run_policy-rounds.auto.w ∙ c.read_within.auto.w)) c.requires)
 
 pub returns-clause-w_value : goal.returns-clause-w_value
 returns-clause-w_value c =
     let a = c.args in
     let G = c.in_ok-read.ensures.read_as in
-    known_read a.f.now a.s.now a.o.now a.a.now a.w.now c.requires c.read_within.new.w _ G _ (c.names.ensures.stand _ _ G.stands) _ c.in_ok-at.ensures _ refl c.names.ensures.parts.3
+    known_read a.f.now a.s.now a.o.now a.a.now a.w.now c.requires c.read_within.new.w _ G _ c.in_ok-at.ensures _ refl
     _ _ (c.run_policy-rounds.ensures a.f.now G)
 
 pub returns-clause-w_unchanged : goal.returns-clause-w_unchanged

@@ -1,77 +1,38 @@
-use Rattle.std.proofs.Common.{◌≡◌, refl, sym, ap, ◌∙◌}
+use Rattle.std.proofs.Common.{refl, sym, ap, ◌∙◌}
+use Rattle.std.proofs.lemmas.Result.{err_from_is_err_and}
 use Rattle.std.proofs.Math.Option.{some}
 use Rattle.reader.specs.Declarations.{group_of}
-use Rattle.reading.proofs.Others.{of_kind, bodied, member_low, predicate_low, table_low, rule_low, body_low}
-use Rattle.reading.proofs.Reached.{malformed, low_read, grant_read, goal_read, on_err, on_fault}
+use Rattle.lines.specs.Parsed.{line_of}
+use Rattle.reading.proofs.Others.{no_end_line}
+use Rattle.reading.proofs.Reached.{malformed, placeless, low_added, goal_read}
 use Rattle.reading.proofs.read_line.Goals as goal
 
 pub returns-in_default-clause-read : goal.returns-in_default-clause-read
-returns-in_default-clause-read c d S = malformed c.args.file.now d _ _ c.in_default.ensures.result_value c.from.ensures.0 c.from.ensures.1
+returns-in_default-clause-read c d S = malformed d _ _ c.in_default.ensures c.from.ensures.0 c.from.ensures.1
 
-pub returns-in-Root-clause-read : goal.returns-in-Root-clause-read
-returns-in-Root-clause-read c d S =
-    rw c.placeless.ensures
-    (low_read _ d _ _ (of_kind _ c.in-Some.ensures.result_value c.in-Root.is) _ c.args.r.now S (member_low _ _ _) _ _ (c.add_member.ensures _ d S))
-
-pub returns-in-Child-clause-read : goal.returns-in-Child-clause-read
-returns-in-Child-clause-read c d S =
-    rw c.placeless-in-Child.ensures
-    (low_read _ d _ _ (of_kind _ c.in-Some.ensures.result_value c.in-Child.is) _ c.args.r.now S (member_low _ _ _) _ _ (c.add_member-in-Child.ensures _ d S))
-
-pub returns-in-Predicate-clause-read : goal.returns-in-Predicate-clause-read
-returns-in-Predicate-clause-read c d S =
-    rw c.placeless-in-Predicate.ensures
-    (low_read _ d _ _ (of_kind _ c.in-Some.ensures.result_value c.in-Predicate.is) _ c.args.r.now S (predicate_low _ _ _) _ _ (c.add_mark.ensures _ d S))
-
-pub returns-in-Table-clause-read : goal.returns-in-Table-clause-read
-returns-in-Table-clause-read c d S =
-    rw c.placeless-in-Table.ensures
-    (low_read _ d _ _ (of_kind _ c.in-Some.ensures.result_value c.in-Table.is) _ c.args.r.now S (table_low _ _) _ _ (c.table_line.ensures.line_judged _ d S))
-
-pub returns-in-Rule-clause-read : goal.returns-in-Rule-clause-read
-returns-in-Rule-clause-read c d S =
-    rw c.placeless-in-Rule.ensures
-    (low_read _ d _ _ (of_kind _ c.in-Some.ensures.result_value c.in-Rule.is) _ c.args.r.now S (rule_low _ _ _ _) _ _ (c.add_rule.ensures _ d S))
-
-pub returns-in-Grant-clause-read : goal.returns-in-Grant-clause-read
-unfolding group_of
-returns-in-Grant-clause-read c d S =
-    rw c.placeless-in-Grant.ensures
-    (grant_read _ d _ _ (of_kind _ c.in-Some.ensures.result_value c.in-Grant.is) _ c.args.r.now refl _ _ (c.add_grant.ensures.judged d S)
-    c.add_grant.ensures.one_more)
+pub returns-in_err-add_line-in_default-l : goal.returns-in_err-add_line-in_default-l
+returns-in_err-add_line-in_default-l c =
+    let p = err_from_is_err_and c.from_residual.result c.from_residual.ensures.1 in
+    record {
+      read = λ d S. rw p.1
+          (placeless d _ _ (sym c.in-Some.ensures) _ p.2.0 p.2.1
+          (c.in_err-add_line-in_default-l.ensures.judged d S (no_end_line _ c.in_default-l.not-Expression)));
+      beyond = c.add_line.ensures.beyond;
+      kept = rw p.1 c.in_err-add_line-in_default-l.ensures.kept;
+    }
 
 pub returns-in-Expression-clause-read : goal.returns-in-Expression-clause-read
 unfolding group_of
 returns-in-Expression-clause-read c d S =
-    goal_read _ d _ _ (of_kind _ c.in-Some.ensures.result_value c.in-Expression.is) _ c.args.r.now _ refl _ (c.add_goal.ensures _ d S)
+    goal_read d _ _ (sym c.in-Some.ensures ∙ ap (λ l. some (line_of l)) c.in-Expression.is) _ c.args.r.now _ refl _ (c.add_goal.ensures _ d S)
 
-pub returns-in_default-l-clause-read : goal.returns-in_default-l-clause-read
-returns-in_default-l-clause-read c d S =
-    let n = c.in_default-l in
-    let b = bodied c.args.file.now c.in-Some.l n.not-Root n.not-Child n.not-Predicate n.not-Table n.not-Grant n.not-Rule n.not-Expression in
-    rw c.placeless-in_default-l.ensures
-    (low_read _ d _ _ (sym c.in-Some.ensures.result_value ∙ ap some b.is) _ c.args.r.now S (body_low b.body) _ _ (c.add_body.ensures _ d b.body S b.is))
-
-pub returns-in-Root-clause-kept : goal.returns-in-Root-clause-kept
-returns-in-Root-clause-kept c = on_err _ refl
-
-pub returns-in-Child-clause-kept : goal.returns-in-Child-clause-kept
-returns-in-Child-clause-kept c = on_err _ refl
-
-pub returns-in-Predicate-clause-kept : goal.returns-in-Predicate-clause-kept
-returns-in-Predicate-clause-kept c = on_err _ refl
-
-pub returns-in-Table-clause-kept : goal.returns-in-Table-clause-kept
-returns-in-Table-clause-kept c = on_err _ refl
-
-pub returns-in-Rule-clause-kept : goal.returns-in-Rule-clause-kept
-returns-in-Rule-clause-kept c = on_err _ refl
-
-pub returns-in-Expression-clause-kept : goal.returns-in-Expression-clause-kept
-returns-in-Expression-clause-kept c = on_err _ refl
-
-pub returns-in_default-l-clause-kept : goal.returns-in_default-l-clause-kept
-returns-in_default-l-clause-kept c = on_err _ refl
-
-pub returns-in-Grant-clause-kept : goal.returns-in-Grant-clause-kept
-returns-in-Grant-clause-kept c = rw c.placeless-in-Grant.ensures (on_fault (c.add_grant.new.w ≡ c.args.w.now) c.add_grant.result c.add_grant.ensures.kept)
+pub returns-in_ok-add_line-in_default-l : goal.returns-in_ok-add_line-in_default-l
+returns-in_ok-add_line-in_default-l c =
+    record {
+      read = λ d S.
+          let low = no_end_line _ c.in_default-l.not-Expression in
+          let J = c.in_ok-add_line-in_default-l.ensures.judged d S low in
+          low_added d _ _ (sym c.in-Some.ensures) _ _ c.args.r.now S low _ J.0 J.1;
+      beyond = c.add_line.ensures.beyond;
+      kept = tt;
+    }

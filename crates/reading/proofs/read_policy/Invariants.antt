@@ -1,15 +1,13 @@
 use Rattle.std.proofs.Common.{◌≡◌, ◌-◌, ◌*◌, length, drop}
-use Rattle.reading.proofs.Cut.{File}
 use Rattle.reading.proofs.Reached.{Reached}
 use Rattle.reading.proofs.read_policy.Given as goal
 
-abbrev pub invariant-loop-at : goal.invariant-loop-at
-invariant-loop-at l = record {
+abbrev pub invariant-loop-rest : goal.invariant-loop-rest
+invariant-loop-rest l = record {
   room : length l.w ≡ length l.initial.w;
-  file : File l.file;
-  reached : Reached l.file l.w l.reading l.at l.line;
+  reached : Reached l.file l.w l.reading l.rest l.line;
   beyond : drop (2 * l.reading.state.grants) l.w ≡ drop (2 * l.reading.state.grants) l.initial.w;
 }
 
-abbrev pub decreases-loop-at : goal.decreases-loop-at
-decreases-loop-at l = length l.file - l.at
+abbrev pub decreases-loop-rest : goal.decreases-loop-rest
+decreases-loop-rest l = length l.rest

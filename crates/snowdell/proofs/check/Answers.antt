@@ -8,4 +8,4 @@ returns-in_err-read c =
     rw (p.1, p.2) (check_no _ _ _ _ c.in_err-read.ensures.read_as)
 
 pub returns : goal.returns
-returns c = rw c.from.ensures (check_yes _ _ _ c.in_ok-read.ensures.read_as)
+returns c = rw c.counts.ensures (check_yes _ _ _ c.in_ok-read.ensures.read_as)
