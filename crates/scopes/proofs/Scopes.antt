@@ -13,7 +13,7 @@ use borrow.Author.Tests.{eq-eqb, ne_eqb}
 use Rattle.algebra.proofs.Bool.{flag_one}
 use Rattle.algebra.specs.Sort.{Sort, subject, object, action}
 use Rattle.algebra.specs.Answer.{Answer, byte, keep}
-use Rattle.algebra.specs.Order.{Op, le, ge, lt, gt, below, compares}
+use Rattle.algebra.specs.Order.{Op, le, ge, lt, gt, eq, below, compares}
 use Rattle.algebra.specs.Policy.{Frame, compared, marked, parents, members, accesses, number, part, is_marked, in_scope}
 use Rattle.algebra.specs.Meant.{scope_meant}
 use Rattle.algebra.specs.declared.Scope.{Scope}
@@ -39,6 +39,14 @@ module _ (fr : Frame) (z : Counts) (t : List ℕ) (d : Stands fr z t) (s o a : �
   part_member subject = rw (← d.counts object, ← d.counts action) (part_subject fr s o a (member_lt object) (member_lt action))
   part_member object = rw (← d.counts object, ← d.counts action) (part_object fr s o a (member_lt object) (member_lt action))
   part_member action = rw (← d.counts object, ← d.counts action) (part_action fr s o a (member_lt action))
+
+  -- a number that is said to be it
+  module _ (σ : Sort) (m : ℕ) (is : m ≡ member_of σ s o a) where
+    pub same_lt : m < members fr σ
+    same_lt = rw is (member_lt σ)
+
+    pub same_part : part fr σ (number z.objects z.actions s o a) ≡ m
+    same_part = part_member σ ∙ sym is
 
 -- ---- what the tables say
 
@@ -86,25 +94,34 @@ module _ (t : List ℕ) (fr : Frame) (z : Counts) (st : Stands fr z t) (σ : Sor
   pub is_listed : (b : ℕ) → x < 16 → b ≡ get_or t (12288 + x * 64 + m) 0 → eqb b 1 ≡ is_marked fr σ x m
   is_listed b h q = ap (λ v. eqb v 1) (q ∙ st.marks σ x m h less) ∙ flag_one _
 
--- a scope holds the access of three members, m being the one of its sort
-module _ (fr : Frame) (z : Counts) (t : List ℕ) (d : Stands fr z t) (s o a : ℕ) (p : s < z.subjects) (q : o < z.objects) (r : a < z.actions)
-    (σ : Sort) (m x : ℕ)
-    (is : m ≡ member_of σ s o a) where
-  of_sort : m ≡ part fr σ (number z.objects z.actions s o a)
-  of_sort = is ∙ sym (part_member fr z t d s o a p q r σ)
-
-  is_less : m < members fr σ
-  is_less = rw is (member_lt fr z t d s o a p q r σ)
-
+-- a scope holds the access y, m being its member of the scope's sort
+module _ (fr : Frame) (σ : Sort) (m x y : ℕ) (pt : part fr σ y ≡ m) (less : m < members fr σ) where
   pub inside_compared : (op : Op) (b : Bool) → Names fr (compared σ op x) → (m < members fr σ → x < members fr σ → b ≡ compares (parents fr σ) op m x)
-      → b ≡ in_scope fr (compared σ op x) (number z.objects z.actions s o a)
+      → b ≡ in_scope fr (compared σ op x) y
   unfolding Names in_scope
-  inside_compared op b l h = h is_less l ∙ ap (λ m. compares (parents fr σ) op m x) of_sort
+  inside_compared op b l h = h less l ∙ ap (λ m. compares (parents fr σ) op m x) (sym pt)
 
-  pub inside_marked : (b : ℕ) → Names fr (marked σ x) → b ≡ get_or t (12288 + x * 64 + m) 0
-      → eqb b 1 ≡ in_scope fr (marked σ x) (number z.objects z.actions s o a)
-  unfolding Names in_scope
-  inside_marked b l e = is_listed t fr z d σ m x is_less b l e ∙ ap (is_marked fr σ x) of_sort
+  pub passes_eq : eqb m x ≡ in_scope fr (compared σ eq x) y
+  unfolding in_scope compares
+  passes_eq = ap (λ m. eqb m x) (sym pt)
+
+  -- b being the byte that is read
+  module _ (z : Counts) (t : List ℕ) (st : Stands fr z t) (b : ℕ) where
+    pub passes_le : Names fr (compared σ le x) → b ≡ get_or t (order_at σ + m * 64 + x) 0 → not (eqb b 0) ≡ in_scope fr (compared σ le x) y
+    passes_le l q = inside_compared le (not (eqb b 0)) l (λ h h'. so_at_most t fr z st σ m x h h' b q)
+
+    pub passes_ge : Names fr (compared σ ge x) → b ≡ get_or t (order_at σ + x * 64 + m) 0 → not (eqb b 0) ≡ in_scope fr (compared σ ge x) y
+    passes_ge l q = inside_compared ge (not (eqb b 0)) l (λ h h'. so_at_least t fr z st σ m x h h' b q)
+
+    pub passes_lt : Names fr (compared σ lt x) → b ≡ get_or t (order_at σ + m * 64 + x) 0 → eqb b 1 ≡ in_scope fr (compared σ lt x) y
+    passes_lt l q = inside_compared lt (eqb b 1) l (λ h h'. so_below t fr z st σ m x h h' b q)
+
+    pub passes_gt : Names fr (compared σ gt x) → b ≡ get_or t (order_at σ + x * 64 + m) 0 → eqb b 1 ≡ in_scope fr (compared σ gt x) y
+    passes_gt l q = inside_compared gt (eqb b 1) l (λ h h'. so_above t fr z st σ m x h h' b q)
+
+    pub passes_mark : Names fr (marked σ x) → b ≡ get_or t (12288 + x * 64 + m) 0 → eqb b 1 ≡ in_scope fr (marked σ x) y
+    unfolding Names in_scope
+    passes_mark l q = is_listed t fr z st σ m x less b l q ∙ ap (is_marked fr σ x) (sym pt)
 
 -- ---- a walk over the accesses
 
