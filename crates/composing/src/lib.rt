@@ -7,8 +7,9 @@ ghost use Rattle.engine.specs.Calls as Calls;
 ghost use Rattle.composing.specs.Composition.{composed_of};
 
 use composer::accesses;
+use reading::Reading;
 use rows::Refused;
-use running::{read_within, run_policy};
+use running::{read_into, run_policy};
 use sets::{copy, count};
 
 // How many accesses there are, how many of them are permitted and undecided, and the rounds.
@@ -26,7 +27,8 @@ pub fn compose_within(f: &[u8], res: &mut [u8], w: &mut [u8]) -> Result<Composed
     ensures w_after { composed_of result res.new (cleared w.old) ≡ Calls.compose f.now res.old w.old }
     ensures w_unchanged { cleared w.new ≡ cleared w.old }
 {
-    let read = read_within(f, w)?;
+    let mut read = Reading::new();
+    read_into(&mut read, f, w)?;
     let n = accesses(read.state.names.counts());
     let rounds = run_policy(w, &read);
     copy(w, res, n);

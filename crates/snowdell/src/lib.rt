@@ -12,7 +12,7 @@ ghost use Rattle.deciding.specs.Decision.{decided_of};
 use algebra::Counts;
 use composing::{Composed, compose_within};
 use deciding::{Decided, decide_within};
-use reading::read_policy;
+use reading::Reading;
 use rows::{Refusal, Refused};
 use sets::clear;
 
@@ -23,7 +23,8 @@ pub fn check(f: &[u8]) -> Result<Counts, Refused>
     ensures { checked_of result ≡ Calls.check f.now }
 {
     let mut w = [0u8; 8192];
-    let read = read_policy(f, &mut w)?;
+    let mut read = Reading::new();
+    read.read(f, &mut w)?;
     Ok(read.state.names.counts())
 }
 

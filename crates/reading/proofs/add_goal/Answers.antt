@@ -6,14 +6,14 @@ use Rattle.state.proofs.Lines.{names_stand}
 use Rattle.reading.proofs.Reached.{goal_is}
 use Rattle.reading.proofs.add_goal.Goals as goal
 
-pub returns-in_err-r : goal.returns-in_err-r
-returns-in_err-r c w d S =
+pub returns-in_err-r-clause-added : goal.returns-in_err-r-clause-added
+returns-in_err-r-clause-added c w d S =
     let p = err_from_is_err_and c.from_residual.result c.from_residual.ensures.1 in
     rw (p.1, p.2) (goal_no d _ _ _ (c.in_err-r.ensures d (names_stand _ _ S.names) (sym S.is_group)))
 
-pub returns : goal.returns
+pub returns-clause-added : goal.returns-clause-added
 unfolding ended_of
-returns c w d S =
+returns-clause-added c w d S =
     let J = goal_taken d _ _ _ (c.in_ok-r.ensures d (names_stand _ _ S.names) (sym S.is_group)) in
     record {
       is_good = J.verdict;
