@@ -11,4 +11,4 @@ pub returns : goal.returns
 unfolding written
 returns c =
     let a = c.args in
-    ap₂ (λ bs n. bs ++ drop n a.r.now) c.copy_from_slice.ensures.after (sym (length-take-le a.n a.s.now (omega arith)))
+    ap₂ (λ bs n. bs ++ drop n a.r.now) c.copy_bytes.ensures (sym (length-take-le a.n a.s.now (omega arith)))

@@ -17,18 +17,18 @@ returns-then-k-j c =
     let w = a.w.now in
     let s = c.split_at_mut-low.ensures in
     let long : a.k * 4096 + a.n - a.k * 4096 ≡ a.n = omega arith in
-    let is = c.copy_from_slice.ensures.after ∙ ap (take a.n) s.back ∙ part_tab (a.j * 4096) a.n w (omega arith) in
-    rw (s.front, s.back) (low_put (a.k * 4096) _ (a.j * 4096) c.copy_from_slice.new.self w (ap length is ∙ length_tab a.n _ ∙ sym long) (omega arith) ∙ ap (λ bs. put (a.k * 4096) bs w) is)
+    let is = c.copy_bytes.ensures ∙ ap (take a.n) s.back ∙ part_tab (a.j * 4096) a.n w (omega arith) in
+    rw (s.front, s.back) (low_put (a.k * 4096) _ (a.j * 4096) c.copy_bytes.new.to w (ap length is ∙ length_tab a.n _ ∙ sym long) (omega arith) ∙ ap (λ bs. put (a.k * 4096) bs w) is)
 
 pub returns-then-j-k : goal.returns-then-j-k
 returns-then-j-k c =
     let a = c.args in
     let w = a.w.now in
     let s = c.split_at_mut-low-then-j-k.ensures in
-    let copied = c.copy_from_slice-then-j-k in
+    let copied = c.copy_bytes-then-j-k in
     let long : a.j * 4096 + a.n - a.j * 4096 ≡ a.n = omega arith in
-    let is = copied.ensures.after ∙ ap₂ (λ m l. take m (drop (a.j * 4096) l)) long s.front ∙ low_tab (a.j * 4096) a.n (a.k * 4096) w (omega arith) (omega arith) in
-    rw (s.front, s.back) (part_put (a.k * 4096) a.n copied.new.self w (ap length is ∙ length_tab a.n _) ∙ ap (λ bs. put (a.k * 4096) bs w) is)
+    let is = copied.ensures ∙ ap₂ (λ m l. take m (drop (a.j * 4096) l)) long s.front ∙ low_tab (a.j * 4096) a.n (a.k * 4096) w (omega arith) (omega arith) in
+    rw (s.front, s.back) (part_put (a.k * 4096) a.n copied.new.to w (ap length is ∙ length_tab a.n _) ∙ ap (λ bs. put (a.k * 4096) bs w) is)
 
 pub returns-else-j-k : goal.returns-else-j-k
 returns-else-j-k c =
