@@ -13,6 +13,11 @@ use Rattle.name_index.specs.declared.Entry.{Entry}
 use Rattle.names.specs.declared.NameKind.{NameKind}
 use Rattle.names.specs.declared.NameKind.TheVariants.{Table, RuleSet, Member, Predicate}
 use Rattle.names.specs.declared.table.Names.{Names}
+use Rattle.names.specs.declared.table.TheConstants.{MOST_ACTIONS, MOST_OTHERS}
+
+-- the names of a file
+abbrev pub NamesOfFile : Type 0
+NamesOfFile = Names MOST_ACTIONS MOST_OTHERS
 
 -- ---- the members of a sort
 
