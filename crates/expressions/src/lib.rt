@@ -45,7 +45,7 @@ fn suffix(t: &[u8], at: usize) -> Result<SuffixText, usize>
 
 // ---- the parts of an expression. Each method reads one from the reader's place on, adds its nodes to those so far, and leaves the reader where the text
 // goes on; or it yields the place of the first byte that is wrong.
-impl<'a, const ACTIONS: usize, const OTHERS: usize> Reader<'a, ACTIONS, OTHERS> {
+impl<const ACTIONS: usize, const OTHERS: usize> Reader<'_, '_, '_, ACTIONS, OTHERS> {
     // The scopes and closures after a primary.
     fn suffixes(&mut self) -> Result<(), usize>
         ensures { Reads (λ number xs t at a. SuffixesAt number t at) self.old self.new result }
@@ -185,9 +185,9 @@ impl<'a, const ACTIONS: usize, const OTHERS: usize> Reader<'a, ACTIONS, OTHERS> 
 }
 
 // Reads a whole text: the nodes of its tree, or the place where it goes wrong.
-pub fn read<'a, const ACTIONS: usize, const OTHERS: usize>(
-    text: &'a [u8],
-    names: &'a Names<'a, ACTIONS, OTHERS>,
+pub fn read<const ACTIONS: usize, const OTHERS: usize>(
+    text: &[u8],
+    names: &Names<'_, ACTIONS, OTHERS>,
 ) -> Result<Nodes, usize>
     requires { array_vec_len names.now.tables ≤ 16 }
     ensures { Answer (lookup_of names.now) text.now result }

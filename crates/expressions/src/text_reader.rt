@@ -9,11 +9,11 @@ use words::{MOST_BOUND, Nodes};
 // An expression's text, and the place reached in it; the names that are declared before it, and those that its templates bind at that place, the innermost
 // last; how many brackets more may be opened; and the nodes of what was read.
 #[derive(Drop)]
-pub struct Reader<'a, const ACTIONS: usize, const OTHERS: usize> {
-    pub text: &'a [u8],
-    pub names: &'a Names<'a, ACTIONS, OTHERS>,
+pub struct Reader<'t, 'n, 'f, const ACTIONS: usize, const OTHERS: usize> {
+    pub text: &'t [u8],
+    pub names: &'n Names<'f, ACTIONS, OTHERS>,
     pub at: usize,
-    pub bound: ArrayVec<&'a [u8], MOST_BOUND>,
+    pub bound: ArrayVec<&'t [u8], MOST_BOUND>,
     pub allow: usize,
     pub nodes: Nodes,
     pub ghost within: { at ≤ length text.now },
