@@ -13,14 +13,14 @@ use Rattle.words.specs.declared.Nodes.{Nodes}
 use Rattle.expressions.specs.Reads.{Stays, Reads}
 use Rattle.expressions.specs.declared.text_reader.Reader.{Reader}
 
-pub stays_same : {r : Reader} → Stays r r
+pub stays_same : {A K : ℕ} {r : Reader A K} → Stays r r
 stays_same = record { text = refl; names = refl; bound = refl; allow = refl }
 
-pub stays_then : {r₀ r r' : Reader} → Stays r₀ r → Stays r r' → Stays r₀ r'
+pub stays_then : {A K : ℕ} {r₀ r r' : Reader A K} → Stays r₀ r → Stays r r' → Stays r₀ r'
 stays_then x y = record { text = y.text ∙ x.text; names = y.names ∙ x.names; bound = y.bound ∙ x.bound; allow = y.allow ∙ x.allow }
 
 -- what is said from a reader's place on to that of another, as far as it has come
-pub record Goes (At : (Kind → List ℕ → Option ℕ) → List (List ℕ) → List ℕ → ℕ → ℕ → ℕ → Nodes → Nodes → Type 0) (r r' : Reader) : Type 0 where
+pub record Goes {A K : ℕ} (At : (Kind → List ℕ → Option ℕ) → List (List ℕ) → List ℕ → ℕ → ℕ → ℕ → Nodes → Nodes → Type 0) (r r' : Reader A K) : Type 0 where
   pub so_far : At (lookup_of r.names.now) (innermost_first r.bound.items) r.text.now r.at r.allow r'.at r.nodes r'.nodes
   pub stays : Stays r r'
 
@@ -37,7 +37,7 @@ module _ (xs : List (Bor (List ℕ))) (x : Bor (List ℕ)) where
       ∙ take-append_seam xs (x ∷ [])
 
 -- a byte that has to stand at a place
-module _ {r₀ r : Reader} (s : Stays r₀ r) (at b n : ℕ) where
+module _ {A K : ℕ} {r₀ r : Reader A K} (s : Stays r₀ r) (at b n : ℕ) where
   pub past_ok : Past r.text.now at b (Ok n) → Past r₀.text.now at b (Ok n)
   past_ok h = rw s.text at h
 
@@ -46,21 +46,21 @@ module _ {r₀ r : Reader} (s : Stays r₀ r) (at b n : ℕ) where
 
 module _ (At : (Kind → List ℕ → Option ℕ) → List (List ℕ) → List ℕ → ℕ → ℕ → Nodes → Nodes → Result ℕ ℕ → Type 0) where
   -- what is said of a reader, by what it read from at first
-  pub at_first : {r₀ r : Reader} → Stays r₀ r → {p' : Nodes} {x : Result ℕ ℕ}
+  pub at_first : {A K : ℕ} {r₀ r : Reader A K} → Stays r₀ r → {p' : Nodes} {x : Result ℕ ℕ}
       → At (lookup_of r.names.now) (innermost_first r.bound.items) r.text.now r.at r.allow r.nodes p' x
       → At (lookup_of r₀.names.now) (innermost_first r₀.bound.items) r₀.text.now r.at r₀.allow r.nodes p' x
   at_first s h = rw (s.names, s.bound, s.text, s.allow) at h
 
-  pub ok_at : {r r' : Reader} {u : Unit {0}} → Reads At r r' (Ok u) → (r₀ : Reader) → Stays r₀ r
+  pub ok_at : {A K : ℕ} {r r' : Reader A K} {u : Unit {0}} → Reads At r r' (Ok u) → (r₀ : Reader A K) → Stays r₀ r
       → At (lookup_of r₀.names.now) (innermost_first r₀.bound.items) r₀.text.now r.at r₀.allow r.nodes r'.nodes (Ok r'.at)
   ok_at h r₀ s = at_first s h.part
 
-  pub err_at : {r r' : Reader} {p : ℕ} → Reads At r r' (Err p) → (r₀ : Reader) → Stays r₀ r
+  pub err_at : {A K : ℕ} {r r' : Reader A K} {p : ℕ} → Reads At r r' (Err p) → (r₀ : Reader A K) → Stays r₀ r
       → At (lookup_of r₀.names.now) (innermost_first r₀.bound.items) r₀.text.now r.at r₀.allow r.nodes r'.nodes (Err p)
   err_at h r₀ s = at_first s h.part
 
   -- what the last call says
-  pub last_call : {After : (Kind → List ℕ → Option ℕ) → List (List ℕ) → List ℕ → ℕ → ℕ → Nodes → Nodes → Result ℕ ℕ → Type 0} {r₀ r r' : Reader}
+  pub last_call : {A K : ℕ} {After : (Kind → List ℕ → Option ℕ) → List (List ℕ) → List ℕ → ℕ → ℕ → Nodes → Nodes → Result ℕ ℕ → Type 0} {r₀ r r' : Reader A K}
       → Stays r₀ r → (u : Result (Unit {0}) ℕ) → Reads After r r' u
       → ((x : Result ℕ ℕ) → After (lookup_of r₀.names.now) (innermost_first r₀.bound.items) r₀.text.now r.at r₀.allow r.nodes r'.nodes x
       → At (lookup_of r₀.names.now) (innermost_first r₀.bound.items) r₀.text.now r₀.at r₀.allow r₀.nodes r'.nodes x)

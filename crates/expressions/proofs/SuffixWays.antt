@@ -121,7 +121,7 @@ module _ (t : List ℕ) (at : ℕ) (y : SuffixText) (the_suffix : SuffixAt t at 
   x_past p = (the_suffix.2, (the_suffix.3 (λ k n. none) p).within)
 
 -- a suffix and its node, by what the reader read from at first
-module _ {r r' : Reader} (s : Stays r r') where
+module _ {A K : ℕ} {r r' : Reader A K} (s : Stays r r') where
   pub suffix_first : (x : Result SuffixText ℕ) → SuffixAt r'.text.now r'.at x → SuffixAt r.text.now r'.at x
   suffix_first x h = rw s.text at h
 

@@ -4,7 +4,7 @@
 
 mod text_reader;
 
-ghost use Rattle.std.specs.Prelude.{◌≡◌, true, ◌+◌, ◌<◌, get_or};
+ghost use Rattle.std.specs.Prelude.{◌≡◌, true, ◌+◌, ◌≤◌, ◌<◌, get_or};
 ghost use Rattle.arrayvec.specs.ArrayVec.{array_vec_len};
 ghost use Rattle.words.specs.Contract.{suffix_byte, SuffixAt, SuffixesAt, PrimaryAt, FactorAt, MoreAt, ExpressionAt, OverrideAt};
 ghost use Rattle.words.specs.Contract.{FillingAt, TemplateAt, Answer};
@@ -45,7 +45,7 @@ fn suffix(t: &[u8], at: usize) -> Result<SuffixText, usize>
 
 // ---- the parts of an expression. Each method reads one from the reader's place on, adds its nodes to those so far, and leaves the reader where the text
 // goes on; or it yields the place of the first byte that is wrong.
-impl<'a> Reader<'a> {
+impl<const ACTIONS: usize, const OTHERS: usize> Reader<'_, '_, '_, ACTIONS, OTHERS> {
     // The scopes and closures after a primary.
     fn suffixes(&mut self) -> Result<(), usize>
         ensures { Reads (λ number xs t at a. SuffixesAt number t at) self.old self.new result }
@@ -185,7 +185,11 @@ impl<'a> Reader<'a> {
 }
 
 // Reads a whole text: the nodes of its tree, or the place where it goes wrong.
-pub fn read(text: &[u8], names: &Names) -> Result<Nodes, usize>
+pub fn read<const ACTIONS: usize, const OTHERS: usize>(
+    text: &[u8],
+    names: &Names<'_, ACTIONS, OTHERS>,
+) -> Result<Nodes, usize>
+    requires { array_vec_len names.now.tables ≤ 16 }
     ensures { Answer (lookup_of names.now) text.now result }
 {
     let mut reader = Reader {

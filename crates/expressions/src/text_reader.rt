@@ -9,14 +9,15 @@ use words::{MOST_BOUND, Nodes};
 // An expression's text, and the place reached in it; the names that are declared before it, and those that its templates bind at that place, the innermost
 // last; how many brackets more may be opened; and the nodes of what was read.
 #[derive(Drop)]
-pub struct Reader<'a> {
-    pub text: &'a [u8],
-    pub names: &'a Names<'a>,
+pub struct Reader<'t, 'n, 'f, const ACTIONS: usize, const OTHERS: usize> {
+    pub text: &'t [u8],
+    pub names: &'n Names<'f, ACTIONS, OTHERS>,
     pub at: usize,
-    pub bound: ArrayVec<&'a [u8], MOST_BOUND>,
+    pub bound: ArrayVec<&'t [u8], MOST_BOUND>,
     pub allow: usize,
     pub nodes: Nodes,
     pub ghost within: { at ≤ length text.now },
     // a bound name has its bracket open
     pub ghost few: { array_vec_len bound + allow ≤ 32 },
+    pub ghost few_tables: { array_vec_len names.now.tables ≤ 16 },
 }

@@ -6,7 +6,7 @@ use Rattle.algebra.specs.Meant.{sort_meant}
 use Rattle.algebra.specs.declared.Scope.TheVariants.{Compared, Marked}
 use Rattle.grammar.specs.Names.{Kind, table, member, predicate}
 use Rattle.grammar.specs.Tree.{tree_of}
-use Rattle.names.specs.declared.table.Names.{Names}
+use Rattle.names.specs.Looks.{NamesOfFile}
 use Rattle.names.proofs.Bounds.{many_of, looked_lt}
 use Rattle.nodes.specs.declared.Node.{Node}
 use Rattle.nodes.specs.declared.Node.TheVariants.{Table, Join, Override, Scope, Closure, Template}
@@ -15,12 +15,11 @@ use Rattle.words.specs.declared.Nodes.{Nodes}
 use Rattle.reader.specs.Declarations.{Declared}
 use Rattle.reader.specs.Expression.{lookup}
 use Rattle.state.specs.NameTables.{NamesHeld}
-use Rattle.state.specs.Standing.{Stands}
-use Rattle.state.specs.declared.State.{State}
+use Rattle.state.specs.Standing.{StateOfFile, Stands}
 use Rattle.state.proofs.NameTables.{lookup_is}
 use Rattle.goals.specs.Goals.{GoalGood, NodeFits}
 
-module _ (names : Names) (d : Declared) (N : NamesHeld names d) where
+module _ (names : NamesOfFile) (d : Declared) (N : NamesHeld names d) where
   -- a name's number is below the count of its kind
   number_lt : (k : Kind) (i : ℕ) → NumberOf (lookup d) k i → i < many_of names k
   number_lt k i x = looked_lt names k x.0 (lookup_is names d N k x.0 ∙ x.1)
@@ -35,7 +34,7 @@ module _ (names : Names) (d : Declared) (N : NamesHeld names d) where
   within_fits (Closure i) h = tt
   within_fits Template h = tt
 
-module _ (w : List ℕ) (st : State) (d : Declared) (limit : ℕ) (t : List ℕ) (p : Nodes) (G : GoalGood d limit t p) where
+module _ (w : List ℕ) (st : StateOfFile) (d : Declared) (limit : ℕ) (t : List ℕ) (p : Nodes) (G : GoalGood d limit t p) where
   pub goal_cells : Stands w st d → (j : ℕ) → j < array_vec_len p.nodes → NodeFits st.names (get_or p.nodes.items j Template)
   goal_cells S j l = within_fits st.names d S.names _ (G.within j l)
 

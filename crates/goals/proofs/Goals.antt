@@ -96,7 +96,7 @@ judged_no d limit t r p h {e} er ep = h ∙ rw (← er, ← ep)
 
 -- ---- the verdict and the nodes
 
-module _ (names : Names) (n : Counts) (n_is : n ≡ counts_of names) (d : Declared) (ns : NamesStand names d) (group : ℕ) (g : d.group ≡ group)
+module _ {A K : ℕ} (names : Names A K) (n : Counts) (n_is : n ≡ counts_of names) (d : Declared) (ns : NamesStand names d) (group : ℕ) (g : d.group ≡ group)
     (limit : ℕ) (t : List ℕ) where
   sizes_are : (σ : Sort) → size_of n σ ≡ count d σ
   sizes_are subject = rw n_is (ns.members_many subject)
@@ -253,7 +253,8 @@ pub goal_added : (d : Declared) (limit : ℕ) (t : List ℕ) (p : Nodes) (G : Go
 unfolding add goal_of
 goal_added d limit t p G = ap (goal_of d limit) G.reads
 
-pub goal_stands : (w : List ℕ) (st : State) (d : Declared) → Stands w st d → (limit : ℕ) (t : List ℕ) → first (rows d (expression_line limit t)) ≡ good
+pub goal_stands : {A K : ℕ} (w : List ℕ) (st : State A K) (d : Declared) → Stands w st d → (limit : ℕ) (t : List ℕ)
+    → first (rows d (expression_line limit t)) ≡ good
     → Stands w (ended_of st) (add d (expression_line limit t))
 unfolding add ended_of group_of
 goal_stands w st d S limit t e = record {
@@ -270,7 +271,7 @@ goal_stands w st d S limit t e = record {
 }
 
 -- the same of the code's answer
-pub goal_line : (w : List ℕ) (st : State) (d : Declared) → Stands w st d → (limit : ℕ) (t : List ℕ) (g : Goal) → GoalTaken d limit t g
-    → (st' : State) → st' ≡ ended_of st → Stands w st' (add d (expression_line limit t))
-goal_line w st d S limit t g J st' es =
-    subst (λ (x : State). Stands w x (add d (expression_line limit t))) (sym es) (goal_stands w st d S limit t J.verdict)
+pub goal_line : {A K : ℕ} (w : List ℕ) (st : State A K) (d : Declared) → Stands w st d → (limit : ℕ) (t : List ℕ) (g : Goal) → GoalTaken d limit t g
+    → (st' : State A K) → st' ≡ ended_of st → Stands w st' (add d (expression_line limit t))
+goal_line {A} {K} w st d S limit t g J st' es =
+    subst (λ (x : State A K). Stands w x (add d (expression_line limit t))) (sym es) (goal_stands w st d S limit t J.verdict)

@@ -40,7 +40,7 @@ pub record GoalGood (d : Declared) (limit : ℕ) (t : List ℕ) (p : Nodes) : Ty
   pub tables : (i : ℕ) → Uses (tree_of (lookup d) expression) i → NumberOf (lookup d) table i
 
 -- the number of a scope's node is in its range, for the names
-unfoldable pub NodeFits : Names → Node → Type 0
+unfoldable pub NodeFits : {A K : ℕ} → Names A K → Node → Type 0
 NodeFits names (Table i) = Unit {0}
 NodeFits names (Join j) = Unit {0}
 NodeFits names Override = Unit {0}
@@ -61,5 +61,5 @@ GoalJudged d limit t (Ok g) = GoalTaken d limit t g
 GoalJudged d limit t (Err e) = first (rows d (expression_line limit t)) ≡ refuse (number_of e.refusal) e.place
 
 -- the state after an E line
-unfoldable pub ended_of : State → State
+unfoldable pub ended_of : {A K : ℕ} → State A K → State A K
 ended_of st = record st { group = Expression }

@@ -1,7 +1,8 @@
 // E lines: the rows that they may meet, and the nodes of the expression.
 #![tactic(auto)]
 
-ghost use Rattle.std.specs.Prelude.{◌≡◌};
+ghost use Rattle.std.specs.Prelude.{◌≡◌, ◌≤◌};
+ghost use Rattle.arrayvec.specs.ArrayVec.{array_vec_len};
 ghost use Rattle.reader.specs.Declarations.{Declared};
 ghost use Rattle.state.specs.Standing.{group_number, NamesStand};
 ghost use Rattle.goals.specs.Goals.{GoalJudged};
@@ -48,7 +49,13 @@ const MOST_SETS: usize = 14;
 const MOST_BINDINGS: usize = 4;
 
 // The rows of an E line, and its goal.
-pub fn judge_expression(names: &Names, group: Group, limit: u16, t: &[u8]) -> Result<Goal, Fault>
+pub fn judge_expression<const ACTIONS: usize, const OTHERS: usize>(
+    names: &Names<'_, ACTIONS, OTHERS>,
+    group: Group,
+    limit: u16,
+    t: &[u8],
+) -> Result<Goal, Fault>
+    requires { array_vec_len names.now.tables ≤ 16 }
     ensures { (d : Declared) → NamesStand names.now d → d.group ≡ group_number group → GoalJudged d limit t.now result }
 {
     in_turn(group, Group::Expression, names.counts())?;

@@ -8,7 +8,7 @@ ghost use Rattle.std.specs.Prelude.{◌≤◌, length};
 use algebra::Sort;
 use files::each_file;
 use name_index::Lookup;
-use names::Names;
+use names::FileNames;
 use reading::read_policy;
 use std::{env, io};
 
@@ -33,7 +33,7 @@ fn sort_of(letter: u8) -> Sort {
 }
 
 // Looks up what the lines of t ask for, among a policy's names; a line that is too short asks for nothing.
-fn look_lines(rt: &impl Print, name: &str, names: &Names, t: &[u8]) -> io::Result<()> {
+fn look_lines(rt: &impl Print, name: &str, names: &FileNames, t: &[u8]) -> io::Result<()> {
     for line in t.split(|&b| b == LF) {
         if line.len() < 2 {
             continue;

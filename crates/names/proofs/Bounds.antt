@@ -11,8 +11,8 @@ use Rattle.name_index.specs.declared.Entry.{Entry}
 use Rattle.names.specs.Looks.{entries_of, member_count, most_members, is_predicate, lookup_of}
 use Rattle.names.specs.declared.table.Names.{Names}
 
-module _ (names : Names) where
-  pub few_members : (σ : Sort) → member_count names σ ≤ most_members σ
+module _ {A K : ℕ} (names : Names A K) where
+  pub few_members : (σ : Sort) → member_count names σ ≤ most_members A σ
   few_members subject = names.subjects.fits
   few_members object = names.objects.fits
   few_members action = names.actions.fits

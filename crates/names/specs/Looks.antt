@@ -1,4 +1,4 @@
--- What the declared names say: the number of a name of a kind, and the members of a sort.
+-- What the declared names say: the number of a name of a kind, and the members of a sort. A is the room for actions, K that for the other kinds.
 use Rattle.std.specs.Prelude as rust
 use Rattle.std.specs.Prelude.{◌≡◌, Bool, ◌&&◌, List, [], ◌∷◌, ◌++◌, ℕ, eqb, length}
 use Rattle.std.proofs.Math.Option.{Option}
@@ -13,29 +13,34 @@ use Rattle.name_index.specs.declared.Entry.{Entry}
 use Rattle.names.specs.declared.NameKind.{NameKind}
 use Rattle.names.specs.declared.NameKind.TheVariants.{Table, RuleSet, Member, Predicate}
 use Rattle.names.specs.declared.table.Names.{Names}
+use Rattle.names.specs.declared.table.TheConstants.{MOST_ACTIONS, MOST_OTHERS}
+
+-- the names of a file
+abbrev pub NamesOfFile : Type 0
+NamesOfFile = Names MOST_ACTIONS MOST_OTHERS
 
 -- ---- the members of a sort
 
-abbrev pub entries_of : Names → Sort → List (Entry (rust.Option ℕ))
+abbrev pub entries_of : {A K : ℕ} → Names A K → Sort → List (Entry (rust.Option ℕ))
 entries_of names subject = names.subjects.entries.items
 entries_of names object = names.objects.entries.items
 entries_of names action = names.actions.entries.items
 
 -- their names
-abbrev pub members_of : Names → Sort → List (List ℕ)
+abbrev pub members_of : {A K : ℕ} → Names A K → Sort → List (List ℕ)
 members_of names σ = names_of (entries_of names σ)
 
-abbrev pub member_count : Names → Sort → ℕ
+abbrev pub member_count : {A K : ℕ} → Names A K → Sort → ℕ
 member_count names σ = length (entries_of names σ)
 
-abbrev pub counts_of : Names → Counts
+abbrev pub counts_of : {A K : ℕ} → Names A K → Counts
 counts_of names = record { subjects = member_count names subject; objects = member_count names object; actions = member_count names action }
 
--- how many there may be
-abbrev pub most_members : Sort → ℕ
-most_members subject = 64
-most_members object = 64
-most_members action = 16
+-- how many there is room for, with room for so many actions
+abbrev pub most_members : ℕ → Sort → ℕ
+most_members actions subject = 64
+most_members actions object = 64
+most_members actions action = actions
 
 -- ---- the number of a name of a kind
 
@@ -49,7 +54,7 @@ sort_number action = 2
 unfoldable pub is_predicate : Sort → List ℕ → Entry sorts.Sort → Bool
 is_predicate σ n e = eqb (sort_number (sort_meant e.tag)) (sort_number σ) && same n e.name.now
 
-unfoldable pub lookup_of : Names → Kind → List ℕ → Option ℕ
+unfoldable pub lookup_of : {A K : ℕ} → Names A K → Kind → List ℕ → Option ℕ
 lookup_of names table n = position (same n) (names_of names.tables.items)
 lookup_of names rule-set n = position (same n) (names_of names.sets.items)
 lookup_of names (member σ) n = position (same n) (members_of names σ)
@@ -63,7 +68,7 @@ kind_of (Member s) = member (sort_meant s)
 kind_of (Predicate s) = predicate (sort_meant s)
 
 -- ---- a member more of a sort, all other entries as they were
-pub record Added (σ : Sort) (e : Entry (rust.Option ℕ)) (old new : Names) : Type 0 where
+pub record Added {A K : ℕ} (σ : Sort) (e : Entry (rust.Option ℕ)) (old new : Names A K) : Type 0 where
   pub here : entries_of new σ ≡ entries_of old σ ++ (e ∷ [])
   pub others : (τ : Sort) → (τ ≡ σ → ⊥) → entries_of new τ ≡ entries_of old τ
   pub predicates : new.predicates ≡ old.predicates

@@ -14,7 +14,7 @@ ghost use Rattle.names.specs.Looks.{kind_of, is_predicate, lookup_of, members_of
 use algebra::{Counts, Sort};
 use arrayvec::ArrayVec;
 use name_index::{Entry, Lookup, Members};
-pub use table::Names;
+pub use table::{FileNames, MOST_ACTIONS, MOST_OTHERS, Names};
 
 // What a name is asked for as.
 #[derive(Clone, Copy)]
@@ -49,9 +49,11 @@ fn predicate(entries: &[Entry<'_, Sort>], sort: Sort, name: &[u8]) -> Option<usi
     entries.iter().position(|p| p.tag == sort && name == p.name)
 }
 
-impl<'a> Names<'a> {
+impl<'a, const ACTIONS: usize, const OTHERS: usize> Names<'a, ACTIONS, OTHERS> {
     // Nothing is declared.
     pub fn new() -> Self
+        requires few_actions { ACTIONS ≤ 64 }
+        requires few_others { OTHERS ≤ 255 }
         ensures subjects { result.subjects.entries.items ≡ [] }
         ensures objects { result.objects.entries.items ≡ [] }
         ensures actions { result.actions.entries.items ≡ [] }
@@ -100,7 +102,7 @@ impl<'a> Names<'a> {
     // A member more of a sort, behind its others, whose name none of them has.
     #[tactic(auto, unfolding(crate::specs::Looks::lookup_of))]
     pub fn add_member(&mut self, sort: Sort, name: &'a [u8], parent: Option<u8>)
-        requires room { member_count self.old (sort_meant sort) < most_members (sort_meant sort) }
+        requires room { member_count self.old (sort_meant sort) < most_members ACTIONS (sort_meant sort) }
         requires fresh { lookup_of self.old (member (sort_meant sort)) name.now ≡ none }
         ensures { Added (sort_meant sort) (record { name = name.entry; tag = parent }) self.old self.new }
     {
@@ -114,7 +116,7 @@ impl<'a> Names<'a> {
     // How many members a sort has.
     pub fn many(&self, sort: Sort) -> u8
         ensures value { result ≡ member_count self.now (sort_meant sort) }
-        ensures few { result ≤ most_members (sort_meant sort) }
+        ensures few { result ≤ most_members ACTIONS (sort_meant sort) }
     {
         match sort {
             Sort::Subject => self.subjects.entries.len() as u8,

@@ -6,17 +6,27 @@ use algebra::Sort;
 use arrayvec::ArrayVec;
 use name_index::{Entry, Members};
 
-// At most 64 subjects and objects, and 16 of each other kind, all in file order: a member with its parent's number, a predicate with its sort,
-// a table with whether its grants are here.
+// How many actions a file may declare, and how many predicates, tables and rule sets each.
+pub const MOST_ACTIONS: usize = 16;
+
+pub const MOST_OTHERS: usize = 16;
+
+// At most 64 subjects and objects, as many actions as there is room for, and as many of each other kind as there is room for others, all in file order:
+// a member with its parent's number, a predicate with its sort, a table with whether its grants are here.
 #[derive(Drop)]
-pub struct Names<'a> {
+pub struct Names<'a, const ACTIONS: usize, const OTHERS: usize> {
     pub subjects: Members<'a, 64>,
     pub objects: Members<'a, 64>,
-    pub actions: Members<'a, 16>,
-    pub predicates: ArrayVec<Entry<'a, Sort>, 16>,
-    pub tables: ArrayVec<Entry<'a, bool>, 16>,
-    pub sets: ArrayVec<Entry<'a, ()>, 16>,
-    pub ghost few_predicates: { array_vec_len predicates ≤ 16 },
-    pub ghost few_tables: { array_vec_len tables ≤ 16 },
-    pub ghost few_sets: { array_vec_len sets ≤ 16 },
+    pub actions: Members<'a, ACTIONS>,
+    pub predicates: ArrayVec<Entry<'a, Sort>, OTHERS>,
+    pub tables: ArrayVec<Entry<'a, bool>, OTHERS>,
+    pub sets: ArrayVec<Entry<'a, ()>, OTHERS>,
+    pub ghost few_actions: { ACTIONS ≤ 64 },
+    pub ghost few_others: { OTHERS ≤ 255 },
+    pub ghost few_predicates: { array_vec_len predicates ≤ OTHERS },
+    pub ghost few_tables: { array_vec_len tables ≤ OTHERS },
+    pub ghost few_sets: { array_vec_len sets ≤ OTHERS },
 }
+
+// The names of a file, with room for just those that it may declare.
+pub type FileNames<'a> = Names<'a, MOST_ACTIONS, MOST_OTHERS>;

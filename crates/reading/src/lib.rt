@@ -14,18 +14,18 @@ use lines::line::{Parsed, parse_line};
 use lines::text::{is_file, piece_end};
 use rows::{Refusal, Refused};
 use rule_lines::{add_body, add_rule};
-use state::{Group, State};
+use state::{FileState, Group};
 use words::Nodes;
 
 // What a file declares: the state after its lines, and the goal of its E line.
 #[derive(Drop)]
 pub struct Reading<'a> {
-    pub state: State<'a>,
+    pub state: FileState<'a>,
     pub goal: Goal,
 }
 
 // A line of any kind but E: refused, or added to the state. The grant of a G line goes to the lent memory.
-fn add_line<'a>(st: &mut State<'a>, w: &mut [u8], l: Parsed<'a>) -> Result<(), Refusal>
+fn add_line<'a>(st: &mut FileState<'a>, w: &mut [u8], l: Parsed<'a>) -> Result<(), Refusal>
     requires counted { Counted st.old.group st.old.names }
     requires room { 2 * st.old.grants + 1 < length w.old }
     ensures judged { (d : Declared) → Stands w.old st.old d → (group_of (line_of l.entry) ≡ 7 → ⊥) → LineJudged w.new d (line_of l.entry) st.new result }
@@ -91,7 +91,7 @@ impl<'a> Reading<'a> {
         ensures { (w : List ℕ) → Stands w result.state start }
     {
         Reading {
-            state: State::new(),
+            state: FileState::new(),
             goal: Goal {
                 limit: 0,
                 nodes: Nodes::new(),

@@ -21,7 +21,7 @@ use Rattle.state.specs.declared.State.{State}
 use Rattle.state.proofs.Lines.{few_after}
 use Rattle.state.proofs.Granting.{grant_added}
 
-module _ (w : List ℕ) (st : State) (d : Declared) (S : Stands w st d) (t s o a : List ℕ) (g : ℕ) (J : GrantJudged d t s o a (rust.Ok g)) where
+module _ {A K : ℕ} (w : List ℕ) (st : State A K) (d : Declared) (S : Stands w st d) (t s o a : List ℕ) (g : ℕ) (J : GrantJudged d t s o a (rust.Ok g)) where
   abbrev l : Line
   l = grant_line t s o a
 

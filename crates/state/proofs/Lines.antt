@@ -25,7 +25,7 @@ use Rattle.state.proofs.Verdicts.{counts_are as counts-are-of}
 use Rattle.state.proofs.Found.{few_accesses}
 
 -- the entries are enough to look names up
-pub names_stand : (names : Names) (d : Declared) → NamesHeld names d → NamesStand names d
+pub names_stand : {A K : ℕ} (names : Names A K) (d : Declared) → NamesHeld names d → NamesStand names d
 names_stand names d N =
     record {
       looks = lookup_is names d N;
@@ -48,7 +48,7 @@ unfolding group_of
 member_early d σ n p e = let h = no_earlier d (member_line σ n p) (good_rows d (member_line σ n p) e).row_4 in let s = sort_low σ in omega arith
 
 -- after one of a later group the accesses are few
-module _ (w : List ℕ) (st : State) (d : Declared) (S : Stands w st d) (l : Line) (e : first (rows d l) ≡ good) (h : 3 ≤ group_of l) where
+module _ {A K : ℕ} (w : List ℕ) (st : State A K) (d : Declared) (S : Stands w st d) (l : Line) (e : first (rows d l) ≡ good) (h : 3 ≤ group_of l) where
   abbrev s : ℕ
   s = member_count st.names subject
 

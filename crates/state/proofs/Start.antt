@@ -29,7 +29,7 @@ no_sorts : Sorted (replicate 4 rust.None) (placed_last [])
 unfolding placed_last clash sort_seen
 no_sorts = record { four = refl; one_sort = refl; entries = λ v h. ap sort_kept (get_or-replicate 4 v rust.None rust.None h) }
 
-module _ (names : Names) (subjects : names.subjects.entries.items ≡ []) (objects : names.objects.entries.items ≡ [])
+module _ {A K : ℕ} (names : Names A K) (subjects : names.subjects.entries.items ≡ []) (objects : names.objects.entries.items ≡ [])
     (actions : names.actions.entries.items ≡ []) (predicates : names.predicates.items ≡ []) (tables : names.tables.items ≡ [])
     (sets : names.sets.items ≡ []) where
   no_members : (σ : Sort) → members_of start.members σ ≡ map member_held (entries_of names σ)

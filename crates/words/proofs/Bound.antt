@@ -90,13 +90,14 @@ module _ (xs : List (List ℕ)) (number : Kind → List ℕ → Option ℕ) (n :
         rw (d, m)
 
 -- a table's number is small
-pub table_fits : (names : Names) (n : List ℕ) → {v : Option ℕ} {k : ℕ} → v ≡ lookup_of names table n → k ≡ place v → k ≤ 16
+pub table_fits : {A K : ℕ} (names : Names A K) (n : List ℕ) → length names.tables.items ≤ 16 → {v : Option ℕ} {k : ℕ}
+    → v ≡ lookup_of names table n → k ≡ place v → k ≤ 16
 unfolding place
-table_fits names n {v} {k} e h = go v e h
+table_fits names n few {v} {k} e h = go v e h
   where
     go : (v : Option ℕ) → v ≡ lookup_of names table n → k ≡ place v → k ≤ 16
     go none q z = omega arith
-    go (some i) q z = omega (arith, looked_lt names table n (sym q), names.few_tables)
+    go (some i) q z = omega (arith, looked_lt names table n (sym q), few)
 
 -- as many as there are
 pub many_bound : (bs : List (Bor (List ℕ))) → length (innermost_first bs) ≡ length bs

@@ -17,37 +17,37 @@ use Rattle.expressions.proofs.ReaderWays.{m_past, m_next, e_bad, e_join, k_none,
 use Rattle.expressions.proofs.text_reader.Reader.+parts.Goals as goal
 
 pub expression-returns-in_err-factor : goal.expression-returns-in_err-factor
-expression-returns-in_err-factor t c =
+expression-returns-in_err-factor g t c =
     let p = err_from_is_err_and c.from_residual.result c.from_residual.ensures.1 in
     rw (p.1, p.2) record { part = e_bad _ _ _ _ _ _ _ _ _ c.in_err-factor.ensures.part; stays = tt }
 
 pub expression-returns : goal.expression-returns
-expression-returns t c =
+expression-returns g t c =
     let s = c.in_ok-factor.ensures in
     last_call ExpressionAt s.stays c.more.result c.more.ensures (λ x m. e_join _ _ _ _ _ _ _ _ _ s.part x m)
 
 pub factor-returns-in_err-primary : goal.factor-returns-in_err-primary
-factor-returns-in_err-primary t c =
+factor-returns-in_err-primary g t c =
     let p = err_from_is_err_and c.from_residual.result c.from_residual.ensures.1 in
     rw (p.1, p.2) record { part = f_bad _ _ _ _ _ _ _ _ _ c.in_err-primary.ensures.part; stays = tt }
 
 pub factor-returns : goal.factor-returns
-factor-returns t c =
+factor-returns g t c =
     let s = c.in_ok-primary.ensures in
     last_call FactorAt s.stays c.suffixes.result c.suffixes.ensures (λ x m. f_join _ _ _ _ _ _ _ _ _ s.part x m)
 
 pub filling-returns-in_err-self : goal.filling-returns-in_err-self
-filling-returns-in_err-self t c =
+filling-returns-in_err-self g t c =
     let p = err_from_is_err_and c.from_residual.result c.from_residual.ensures.1 in
     rw (p.1, p.2) record { part = k_none _ _ _ _ _ _ _ _ c.args.self.now.within c.in_err-self.ensures; stays = tt }
 
 pub filling-returns-in_err-part : goal.filling-returns-in_err-part
-filling-returns-in_err-part t c =
+filling-returns-in_err-part g t c =
     let p = err_from_is_err_and c.from_residual-in_err-part.result c.from_residual-in_err-part.ensures.1 in
     rw (p.1, p.2) record { part = k_bad _ _ _ _ _ _ _ _ c.in_ok-self.ensures _ _ c.in_err-part.ensures.part; stays = tt }
 
 pub filling-returns : goal.filling-returns
-filling-returns t c =
+filling-returns g t c =
     let s = c.in_ok-part.ensures.stays in
     record {
       part = k_good _ _ _ _ _ _ _ _ c.in_ok-self.ensures _ _ c.in_ok-part.ensures.part c.put.ensures;
@@ -55,11 +55,11 @@ filling-returns t c =
     }
 
 pub more-loop-joiner-init : goal.more-loop-joiner-init
-more-loop-joiner-init t c =
+more-loop-joiner-init g t c =
     record { so_far = m_first _ _ _ _ _ _ c.args.self.now.within; stays = stays_same }
 
 pub more-returns-in_err-factor : goal.more-returns-in_err-factor
-more-returns-in_err-factor t c =
+more-returns-in_err-factor g t c =
     let p = err_from_is_err_and c.from_residual.result c.from_residual.ensures.1 in
     let i = c.loop-joiner.invariant in
     let s = i.stays in
@@ -68,7 +68,7 @@ more-returns-in_err-factor t c =
     rw (p.1, p.2) record { part = m_bad _ _ _ _ _ _ _ _ i.so_far _ _ w c.in-Some.ensures _ _ _ f; stays = tt }
 
 pub more-loop-joiner-smaller : goal.more-loop-joiner-smaller
-more-loop-joiner-smaller t c =
+more-loop-joiner-smaller g t c =
     let i = c.loop-joiner.invariant in
     let s = i.stays in
     let w = c.peek.ensures ∙ ap (λ text. get_or text c.loop-joiner.self.at 0) s.text in
@@ -76,7 +76,7 @@ more-loop-joiner-smaller t c =
     omega (arith, m_past _ _ _ _ _ _ _ _ i.so_far _ _ w c.in-Some.ensures _ _ f, ap length s.text, ap length c.in_ok-factor.ensures.stays.text)
 
 pub more-loop-joiner-preserved : goal.more-loop-joiner-preserved
-more-loop-joiner-preserved t c =
+more-loop-joiner-preserved g t c =
     let i = c.loop-joiner.invariant in
     let s = i.stays in
     let w = c.peek.ensures ∙ ap (λ text. get_or text c.loop-joiner.self.at 0) s.text in
@@ -88,25 +88,25 @@ more-loop-joiner-preserved t c =
     }
 
 pub more-returns : goal.more-returns
-more-returns t c =
+more-returns g t c =
     let i = c.loop-joiner.invariant in
     let s = i.stays in
     let w = c.peek.ensures ∙ ap (λ text. get_or text c.loop-joiner.self.at 0) s.text in
     record { part = m_end _ _ _ _ _ _ _ _ i.so_far (seen sign_byte w c.sign.ensures c.in_default.is); stays = s }
 
 pub overridden-returns-in_err-part : goal.overridden-returns-in_err-part
-overridden-returns-in_err-part t c =
+overridden-returns-in_err-part g t c =
     let p = err_from_is_err_and c.from_residual.result c.from_residual.ensures.1 in
     rw (p.1, p.2) record { part = h_first _ _ _ _ _ _ _ _ _ c.in_err-part.ensures.part; stays = tt }
 
 pub overridden-returns-in_err-part-2 : goal.overridden-returns-in_err-part-2
-overridden-returns-in_err-part-2 t c =
+overridden-returns-in_err-part-2 g t c =
     let p = err_from_is_err_and c.from_residual-in_err-part-2.result c.from_residual-in_err-part-2.ensures.1 in
     let one = c.in_ok-part.ensures in
     rw (p.1, p.2) record { part = h_second _ _ _ _ _ _ _ _ _ one.part _ _ (err_at (EndedBy 44) c.in_err-part-2.ensures c.args.self.now one.stays); stays = tt }
 
 pub overridden-returns-in_err-part-3 : goal.overridden-returns-in_err-part-3
-overridden-returns-in_err-part-3 t c =
+overridden-returns-in_err-part-3 g t c =
     let p = err_from_is_err_and c.from_residual-in_err-part-3.result c.from_residual-in_err-part-3.ensures.1 in
     let one = c.in_ok-part.ensures in
     let two = ok_at (EndedBy 44) c.in_ok-part-2.ensures c.args.self.now one.stays in
@@ -114,7 +114,7 @@ overridden-returns-in_err-part-3 t c =
     rw (p.1, p.2) record { part = h_third _ _ _ _ _ _ _ _ _ one.part _ _ two _ _ three; stays = tt }
 
 pub overridden-returns : goal.overridden-returns
-overridden-returns t c =
+overridden-returns g t c =
     let one = c.in_ok-part.ensures in
     let two = ok_at (EndedBy 44) c.in_ok-part-2.ensures c.args.self.now one.stays in
     let e = stays_then one.stays c.in_ok-part-2.ensures.stays in
@@ -125,22 +125,22 @@ overridden-returns t c =
     }
 
 pub part-returns-in_err-expression : goal.part-returns-in_err-expression
-part-returns-in_err-expression t c =
+part-returns-in_err-expression g t c =
     let p = err_from_is_err_and c.from_residual.result c.from_residual.ensures.1 in
     rw (p.1, p.2) record { part = g_bad _ _ _ _ _ _ _ _ _ c.in_err-expression.ensures.part; stays = tt }
 
 pub part-returns-in_err-self : goal.part-returns-in_err-self
-part-returns-in_err-self t c =
+part-returns-in_err-self g t c =
     let p = err_from_is_err_and c.from_residual-in_err-self.result c.from_residual-in_err-self.ensures.1 in
     let s = c.in_ok-expression.ensures.stays in
     rw (p.1, p.2) record { part = g_past _ _ _ _ _ _ _ _ _ c.in_ok-expression.ensures.part _ (past_err s _ _ _ c.in_err-self.ensures); stays = tt }
 
 pub part-invariant_of-self-clause-within : goal.part-invariant_of-self-clause-within
-part-invariant_of-self-clause-within t c =
+part-invariant_of-self-clause-within g t c =
     (past_in _ _ _ _ c.requires c.in_ok-self.ensures).1
 
 pub part-returns : goal.part-returns
-part-returns t c =
+part-returns g t c =
     let s = c.in_ok-expression.ensures.stays in
     record {
       part = g_past _ _ _ _ _ _ _ _ _ c.in_ok-expression.ensures.part _ (past_ok s _ _ _ c.in_ok-self.ensures);
@@ -148,11 +148,11 @@ part-returns t c =
     }
 
 pub primary-returns-then-self-eq0 : goal.primary-returns-then-self-eq0
-primary-returns-then-self-eq0 t c =
+primary-returns-then-self-eq0 g t c =
     record { part = p_full _ _ _ _ _ _ _ (byte_is c.peek.ensures c.if-peek-eq40.true) c.if-self-eq0.true; stays = tt }
 
 pub primary-returns-in_err-template : goal.primary-returns-in_err-template
-primary-returns-in_err-template t c =
+primary-returns-in_err-template g t c =
     let p = err_from_is_err_and c.from_residual.result c.from_residual.ensures.1 in
     let b = sym c.is_binding.ensures ∙ c.if-is_binding.true in
     rw (p.1, p.2) record {
@@ -161,7 +161,7 @@ primary-returns-in_err-template t c =
     }
 
 pub primary-returns-in_err-part : goal.primary-returns-in_err-part
-primary-returns-in_err-part t c =
+primary-returns-in_err-part g t c =
     let p = err_from_is_err_and c.from_residual-in_err-part.result c.from_residual-in_err-part.ensures.1 in
     let b = sym c.is_binding.ensures ∙ c.if-is_binding.false in
     rw (p.1, p.2) record {
@@ -170,7 +170,7 @@ primary-returns-in_err-part t c =
     }
 
 pub primary-returns-then-is_binding : goal.primary-returns-then-is_binding
-primary-returns-then-is_binding t c =
+primary-returns-then-is_binding g t c =
     let b = sym c.is_binding.ensures ∙ c.if-is_binding.true in
     let s = c.in_ok-template.ensures.stays in
     record {
@@ -179,7 +179,7 @@ primary-returns-then-is_binding t c =
     }
 
 pub primary-returns-then-peek-eq40 : goal.primary-returns-then-peek-eq40
-primary-returns-then-peek-eq40 t c =
+primary-returns-then-peek-eq40 g t c =
     let b = sym c.is_binding.ensures ∙ c.if-is_binding.false in
     let s = c.in_ok-part.ensures.stays in
     record {
@@ -188,7 +188,7 @@ primary-returns-then-peek-eq40 t c =
     }
 
 pub primary-returns-in_err-end : goal.primary-returns-in_err-end
-primary-returns-in_err-end t c =
+primary-returns-in_err-end g t c =
     let p = err_from_is_err_and c.from_residual-in_err-end.result c.from_residual-in_err-end.ensures.1 in
     let n = byte_isnt c.peek.ensures c.if-peek-eq40.false in
     rw (p.1, p.2) record {
@@ -197,19 +197,19 @@ primary-returns-in_err-end t c =
     }
 
 pub primary-slice_bounds-name-count : goal.primary-slice_bounds-name-count
-primary-slice_bounds-name-count t c =
+primary-slice_bounds-name-count g t c =
     omega (arith, n_bounds _ _ _ c.in_ok-end.ensures)
 
 pub primary-slice_bounds-name-start : goal.primary-slice_bounds-name-start
-primary-slice_bounds-name-start t c =
+primary-slice_bounds-name-start g t c =
     omega (arith, n_bounds _ _ _ c.in_ok-end.ensures)
 
 pub primary-slice_bounds-name-end : goal.primary-slice_bounds-name-end
-primary-slice_bounds-name-end t c =
+primary-slice_bounds-name-end g t c =
     omega (arith, n_bounds _ _ _ c.in_ok-end.ensures)
 
 pub primary-returns-in_err-self-in-Some-OfSort-Object : goal.primary-returns-in_err-self-in-Some-OfSort-Object
-primary-returns-in_err-self-in-Some-OfSort-Object t c =
+primary-returns-in_err-self-in-Some-OfSort-Object g t c =
     let p = err_from_is_err_and c.from_residual-in_err-self-in-Some-OfSort-Object.result c.from_residual-in_err-self-in-Some-OfSort-Object.ensures.1 in
     let n = byte_isnt c.peek.ensures c.if-peek-eq40.false in
     let m = c.in-Some-OfSort-Object in
@@ -220,7 +220,7 @@ primary-returns-in_err-self-in-Some-OfSort-Object t c =
     }
 
 pub primary-returns-then-self-eq0-2 : goal.primary-returns-then-self-eq0-2
-primary-returns-then-self-eq0-2 t c =
+primary-returns-then-self-eq0-2 g t c =
     let n = byte_isnt c.peek.ensures c.if-peek-eq40.false in
     let m = c.in-Some-OfSort-Object in
     let w = word_is _ _ _ c.in_ok-end.ensures (sort_is {r = Object} m.field-0-is (rw m.field-0-is at m.field-0-0-is) m.ensures) in
@@ -230,7 +230,7 @@ primary-returns-then-self-eq0-2 t c =
     }
 
 pub primary-returns-in_err-overridden-in-Some-OfSort-Object : goal.primary-returns-in_err-overridden-in-Some-OfSort-Object
-primary-returns-in_err-overridden-in-Some-OfSort-Object t c =
+primary-returns-in_err-overridden-in-Some-OfSort-Object g t c =
     let f = c.from_residual-in_err-overridden-in-Some-OfSort-Object in
     let p = err_from_is_err_and f.result f.ensures.1 in
     let n = byte_isnt c.peek.ensures c.if-peek-eq40.false in
@@ -243,7 +243,7 @@ primary-returns-in_err-overridden-in-Some-OfSort-Object t c =
     }
 
 pub primary-returns-in_ok-overridden-in-Some-OfSort-Object : goal.primary-returns-in_ok-overridden-in-Some-OfSort-Object
-primary-returns-in_ok-overridden-in-Some-OfSort-Object t c =
+primary-returns-in_ok-overridden-in-Some-OfSort-Object g t c =
     let n = byte_isnt c.peek.ensures c.if-peek-eq40.false in
     let m = c.in-Some-OfSort-Object in
     let w = word_is _ _ _ c.in_ok-end.ensures (sort_is {r = Object} m.field-0-is (rw m.field-0-is at m.field-0-0-is) m.ensures) in
@@ -255,7 +255,7 @@ primary-returns-in_ok-overridden-in-Some-OfSort-Object t c =
     }
 
 pub primary-returns-in-None : goal.primary-returns-in-None
-primary-returns-in-None t c =
+primary-returns-in-None g t c =
     let n = byte_isnt c.peek.ensures c.if-peek-eq40.false in
     let name = part_is c.args.self.now.at c.in_ok-end.end c.args.self.now.text.now (omega (arith, n_bounds _ _ _ c.in_ok-end.ensures)) in
     record {
@@ -265,50 +265,50 @@ primary-returns-in-None t c =
     }
 
 pub primary-returns-in-Some-OfSort-Subject : goal.primary-returns-in-Some-OfSort-Subject
-primary-returns-in-Some-OfSort-Subject t c =
+primary-returns-in-Some-OfSort-Subject g t c =
     let n = byte_isnt c.peek.ensures c.if-peek-eq40.false in
     let m = c.in-Some-OfSort-Subject in
     let w = word_is _ _ _ c.in_ok-end.ensures (sort_is {r = Subject} m.field-0-is (rw m.field-0-is at m.field-0-0-is) m.ensures) in
     record { part = p_word _ _ _ _ _ _ _ c.args.self.now.within n _ c.in_ok-end.ensures (of_sort subject) w (λ e. cc); stays = tt }
 
 pub primary-returns-in-Some-OfSort-Action : goal.primary-returns-in-Some-OfSort-Action
-primary-returns-in-Some-OfSort-Action t c =
+primary-returns-in-Some-OfSort-Action g t c =
     let n = byte_isnt c.peek.ensures c.if-peek-eq40.false in
     let m = c.in-Some-OfSort-Action in
     let w = word_is _ _ _ c.in_ok-end.ensures (sort_is {r = Action} m.field-0-is (rw m.field-0-is at m.field-0-0-is) m.ensures) in
     record { part = p_word _ _ _ _ _ _ _ c.args.self.now.within n _ c.in_ok-end.ensures (of_sort action) w (λ e. cc); stays = tt }
 
 pub primary-returns-in-Some-OfTemplate : goal.primary-returns-in-Some-OfTemplate
-primary-returns-in-Some-OfTemplate t c =
+primary-returns-in-Some-OfTemplate g t c =
     let n = byte_isnt c.peek.ensures c.if-peek-eq40.false in
     let m = c.in-Some-OfTemplate in
     let w = word_is _ _ _ c.in_ok-end.ensures (rw m.field-0-is at m.ensures) in
     record { part = p_word _ _ _ _ _ _ _ c.args.self.now.within n _ c.in_ok-end.ensures of_template w (λ e. cc); stays = tt }
 
 pub template-returns-in_err-to : goal.template-returns-in_err-to
-template-returns-in_err-to t c =
+template-returns-in_err-to g t c =
     let p = err_from_is_err_and c.from_residual.result c.from_residual.ensures.1 in
     rw (p.1, p.2) record { part = t_none _ _ _ _ _ _ _ _ c.in_err-to.ensures; stays = tt }
 
 pub template-past-requires : goal.template-past-requires
-template-past-requires t c =
+template-past-requires g t c =
     (t_in _ _ _ c.in_ok-to.ensures).1
 
 pub template-returns-in_err-self : goal.template-returns-in_err-self
-template-returns-in_err-self t c =
+template-returns-in_err-self g t c =
     let p = err_from_is_err_and c.from_residual-in_err-self.result c.from_residual-in_err-self.ensures.1 in
     rw (p.1, p.2) record { part = t_open _ _ _ _ _ _ _ _ c.in_ok-to.ensures _ c.in_err-self.ensures; stays = tt }
 
 pub template-slice_bounds-push-count : goal.template-slice_bounds-push-count
-template-slice_bounds-push-count t c =
+template-slice_bounds-push-count g t c =
     omega (arith, t_in _ _ _ c.in_ok-to.ensures)
 
 pub template-slice_bounds-push-start : goal.template-slice_bounds-push-start
-template-slice_bounds-push-start t c =
+template-slice_bounds-push-start g t c =
     omega (arith, t_in _ _ _ c.in_ok-to.ensures)
 
 pub template-returns-in_err-part : goal.template-returns-in_err-part
-template-returns-in_err-part t c =
+template-returns-in_err-part g t c =
     let p = err_from_is_err_and c.from_residual-in_err-part.result c.from_residual-in_err-part.ensures.1 in
     let n = t_in _ _ _ c.in_ok-to.ensures in
     let x = bound_more c.args.self.now.bound.items _ c.args.self.now.text.now _ _ c.push.ensures.items refl (omega (arith, n)) in
@@ -318,7 +318,7 @@ template-returns-in_err-part t c =
     }
 
 pub template-returns : goal.template-returns
-template-returns t c =
+template-returns g t c =
     let n = t_in _ _ _ c.in_ok-to.ensures in
     let x = bound_more c.args.self.now.bound.items _ c.args.self.now.text.now _ _ c.push.ensures.items refl (omega (arith, n)) in
     let s = c.in_ok-part.ensures.stays in

@@ -6,31 +6,31 @@ use Rattle.words.specs.Contract.{ReadsMore}
 use Rattle.expressions.proofs.text_reader.Reader.+parts.Given as goal
 
 abbrev pub decreases-expression : goal.decreases-expression
-decreases-expression l = 8 * l.self.now.allow + 3
+decreases-expression g l = 8 * l.self.now.allow + 3
 
 abbrev pub decreases-factor : goal.decreases-factor
-decreases-factor l = 8 * l.self.now.allow + 1
+decreases-factor g l = 8 * l.self.now.allow + 1
 
 abbrev pub decreases-filling : goal.decreases-filling
-decreases-filling l = 8 * l.self.now.allow + 5
+decreases-filling g l = 8 * l.self.now.allow + 5
 
 abbrev pub decreases-more : goal.decreases-more
-decreases-more l = 8 * l.self.now.allow + 2
+decreases-more g l = 8 * l.self.now.allow + 2
 
 abbrev pub decreases-overridden : goal.decreases-overridden
-decreases-overridden l = 8 * l.self.now.allow + 5
+decreases-overridden g l = 8 * l.self.now.allow + 5
 
 abbrev pub decreases-part : goal.decreases-part
-decreases-part l = 8 * l.self.now.allow + 4
+decreases-part g l = 8 * l.self.now.allow + 4
 
 abbrev pub decreases-primary : goal.decreases-primary
-decreases-primary l = 8 * l.self.now.allow
+decreases-primary g l = 8 * l.self.now.allow
 
 abbrev pub decreases-template : goal.decreases-template
-decreases-template l = 8 * l.self.now.allow + 6
+decreases-template g l = 8 * l.self.now.allow + 6
 
 abbrev pub invariant-more-loop-joiner : goal.invariant-more-loop-joiner
-invariant-more-loop-joiner l = Goes ReadsMore l.initial.self l.self
+invariant-more-loop-joiner g l = Goes ReadsMore l.initial.self l.self
 
 abbrev pub decreases-more-loop-joiner : goal.decreases-more-loop-joiner
-decreases-more-loop-joiner l = length l.self.text.now - l.self.at
+decreases-more-loop-joiner g l = length l.self.text.now - l.self.at

@@ -7,31 +7,31 @@ use Rattle.expressions.proofs.SuffixWays.{x_part, x_past, suffix_first, name_fir
 use Rattle.expressions.proofs.text_reader.Reader.suffixes.Goals as goal
 
 pub loop-x-init : goal.loop-x-init
-loop-x-init c = record { so_far = xs_first _ _ _ _ c.args.self.now.within; stays = stays_same }
+loop-x-init g c = record { so_far = xs_first _ _ _ _ c.args.self.now.within; stays = stays_same }
 
 pub returns-in_err-x : goal.returns-in_err-x
-returns-in_err-x c =
+returns-in_err-x g c =
     let p = err_from_is_err_and c.from_residual.result c.from_residual.ensures.1 in
     let i = c.loop-x.invariant in
     rw (p.1, p.2) record { part = xs_bad _ _ _ _ _ _ i.so_far _ _ (suffix_first i.stays _ c.in_err-x.ensures); stays = tt }
 
 pub slice_bounds-put_name-count : goal.slice_bounds-put_name-count
-slice_bounds-put_name-count c = (x_part _ _ _ c.in_ok-x.ensures).0
+slice_bounds-put_name-count g c = (x_part _ _ _ c.in_ok-x.ensures).0
 
 pub slice_bounds-put_name-start : goal.slice_bounds-put_name-start
-slice_bounds-put_name-start c = omega (arith, x_part _ _ _ c.in_ok-x.ensures)
+slice_bounds-put_name-start g c = omega (arith, x_part _ _ _ c.in_ok-x.ensures)
 
 pub slice_bounds-put_name-end : goal.slice_bounds-put_name-end
-slice_bounds-put_name-end c = omega (arith, x_part _ _ _ c.in_ok-x.ensures)
+slice_bounds-put_name-end g c = omega (arith, x_part _ _ _ c.in_ok-x.ensures)
 
 pub invariant_of-self-clause-within : goal.invariant_of-self-clause-within
-invariant_of-self-clause-within c = (x_past _ _ _ c.in_ok-x.ensures c.loop-x.self.nodes).1
+invariant_of-self-clause-within g c = (x_past _ _ _ c.in_ok-x.ensures c.loop-x.self.nodes).1
 
 pub loop-x-smaller : goal.loop-x-smaller
-loop-x-smaller c = omega (arith, x_past _ _ _ c.in_ok-x.ensures c.loop-x.self.nodes)
+loop-x-smaller g c = omega (arith, x_past _ _ _ c.in_ok-x.ensures c.loop-x.self.nodes)
 
 pub loop-x-preserved : goal.loop-x-preserved
-loop-x-preserved c =
+loop-x-preserved g c =
     let i = c.loop-x.invariant in
     let s = c.in_ok-x.ensures in
     record {
@@ -41,7 +41,7 @@ loop-x-preserved c =
     }
 
 pub returns : goal.returns
-returns c =
+returns g c =
     let i = c.loop-x.invariant in
     let none : suffix_byte (get_or c.loop-x.self.text.now c.loop-x.self.at 0) ≡ false =
     seen suffix_byte c.peek.ensures c.is_suffix.ensures c.loop-x-test.false in

@@ -8,7 +8,7 @@ use Rattle.names.proofs.Bounds.{looked_lt}
 use Rattle.state.proofs.Found.{few_total, access_few, here_tag}
 use Rattle.state.proofs.Turns.{turn_ok}
 use Rattle.state.proofs.Grants.{grant_late, grant_6, grant_10, grant_good}
-use Rattle.state.proofs.State.judge_grant.Goals as goal
+use Rattle.state.proofs.FileState.judge_grant.Goals as goal
 
 pub returns-in_err-in_turn : goal.returns-in_err-in_turn
 returns-in_err-in_turn c d ns g =

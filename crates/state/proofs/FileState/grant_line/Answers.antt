@@ -3,7 +3,7 @@ use Rattle.std.proofs.lemmas.Result.{err_from_is_err_and}
 use Rattle.state.specs.Standing.{granted_of}
 use Rattle.state.proofs.Lines.{names_stand}
 use Rattle.state.proofs.GrantLine.{grant_stands, beyond_more}
-use Rattle.state.proofs.State.grant_line.Goals as goal
+use Rattle.state.proofs.FileState.grant_line.Goals as goal
 
 pub returns-in_err-grant-clause-line_judged : goal.returns-in_err-grant-clause-line_judged
 returns-in_err-grant-clause-line_judged c d S =

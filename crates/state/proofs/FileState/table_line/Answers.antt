@@ -3,7 +3,7 @@ use Rattle.std.proofs.lemmas.Result.{err_from_is_err_and}
 use Rattle.algebra.specs.Sort.{subject, object, action}
 use Rattle.state.proofs.Adding.{table_stands}
 use Rattle.state.proofs.Lines.{names_stand}
-use Rattle.state.proofs.State.table_line.Goals as goal
+use Rattle.state.proofs.FileState.table_line.Goals as goal
 
 pub returns-in_err-judge_table-clause-line_judged : goal.returns-in_err-judge_table-clause-line_judged
 returns-in_err-judge_table-clause-line_judged c w d S =

@@ -5,7 +5,7 @@ use Rattle.algebra.specs.Meant.{sort_meant}
 use Rattle.state.specs.Judged.{MarkMade, MarkFits}
 use Rattle.state.proofs.Lines.{names_stand}
 use Rattle.state.proofs.Marks.{known_stands, fresh_stands}
-use Rattle.state.proofs.State.predicate_line.Goals as goal
+use Rattle.state.proofs.FileState.predicate_line.Goals as goal
 
 pub returns-in_err-i-clause-line_judged : goal.returns-in_err-i-clause-line_judged
 returns-in_err-i-clause-line_judged c w d S =
