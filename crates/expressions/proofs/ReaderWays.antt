@@ -539,6 +539,12 @@ module _ (number : Kind → List ℕ → Option ℕ) (xs : List (List ℕ)) (t :
     e_join p' n s (Err m) y = record { within = y.within; stops = λ ks u. s.1.reads ks start ∙ y.stops ks start s.0 }
 
 -- ---- templates
+-- `t:` behind the bracket lies within the text
+pub p_bound : (t : List ℕ) (at : ℕ) {r : Bool} → r ≡ (eqb (get_or t (at + 1) 0) 116 && eqb (get_or t (at + 1 + 1) 0) 58) → r ≡ true → at + 3 ≤ length t
+p_bound t at e h =
+    let v = eqb-true (get_or t (at + 1 + 1) 0) 58 (and_right (eqb (get_or t (at + 1) 0) 116) _ (sym e ∙ h)) in
+    omega (arith, is_in_lem 58 t (at + 1 + 1) v (omega arith))
+
 pub t_in : (t : List ℕ) (at to : ℕ) → Name t at (Ok to) → (at < to) × (to ≤ length t)
 unfolding Name
 t_in t at to m = (m.past, m.within)

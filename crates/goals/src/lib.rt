@@ -15,7 +15,7 @@ use state::{Group, in_turn};
 use words::Nodes;
 
 // What an E line declares: a limit, and the nodes of its expression.
-#[derive(Drop)]
+#[derive(Clone, Drop)]
 pub struct Goal {
     pub limit: u16,
     pub nodes: Nodes,

@@ -10,11 +10,11 @@ use Rattle.std.specs.Prelude as rust
 use Rattle.std.proofs.Common.{nat_eq}
 use Rattle.std.specs.Cmp.Lexicographic.{pointwise}
 use Rattle.std.proofs.lemmas.List.{get_or-map}
-use lib.ListN.{length, get_or, set, replicate, length-map}
+use lib.ListN.{length, get_or, replicate, length-map}
 use Rattle.grammar.specs.Lookup.{same, position}
 use Rattle.name_index.specs.Hash.{slot_of}
 use Rattle.name_index.specs.Index.{after, Searched, search_from, search, free_from, free_slot, put, index_from, index, look_up, Indexed}
-use Rattle.name_index.specs.Entries.{names_of, looked_of, LooksUp}
+use Rattle.name_index.specs.Entries.{names_of, Slots, looked_of, LooksUp}
 use Rattle.name_index.specs.declared.Entry.{Entry}
 use Rattle.name_index.specs.declared.Lookup.{Lookup}
 use Rattle.name_index.specs.declared.Members.{Members}
@@ -86,7 +86,7 @@ module _ (slots : List ℕ) (names : List (List ℕ)) (n : List ℕ) where
   searching_first e = record { at_slot = stands_first n e; left = refl }
 
   module _ {i k : ℕ} (x : Searching i k) where
-    searching_free : k < 256 → get_or slots i 0 ≡ 0 → {r : ℕ} → r ≡ suc k → ◌≡◌ {A = Searched} record { member = none; read = r } (search slots names n)
+    pub searching_free : k < 256 → get_or slots i 0 ≡ 0 → {r : ℕ} → r ≡ suc k → ◌≡◌ {A = Searched} record { member = none; read = r } (search slots names n)
     searching_free h e q = rw q (sym (x.left ∙ rw (slots_left k h) (search_free slots names n (slot_of n) k (256 - suc k) (stands_slot slots n x.at_slot ∙ e))))
 
     module _ (h : k < 256) {m : ℕ} (e : get_or slots i 0 ≡ suc m) where
@@ -105,9 +105,28 @@ module _ (slots : List ℕ) (names : List (List ℕ)) (n : List ℕ) where
                 (search_other slots names n (slot_of n) k (256 - suc k) m (stands_slot slots n x.at_slot ∙ e) q);
           }
 
-    searching_end : 256 ≤ k → ◌≡◌ {A = Searched} record { member = none; read = 256 } (search slots names n)
+    pub searching_end : 256 ≤ k → ◌≡◌ {A = Searched} record { member = none; read = 256 } (search slots names n)
     unfolding search_from
     searching_end h = let z : k ≡ 256 = omega (arith, x.at_slot.within) in sym (x.left ∙ rw z)
+
+-- what a slot that is taken tells, by slots of which none has a number beyond the entries
+module _ {T : Type 0} (slots : List ℕ) (es : List (Entry T)) (n : List ℕ) (few : Slots slots (length es)) where
+  module _ {i k : ℕ} (x : Searching slots (names_of es) n i k) (h : k < 256) (taken : get_or slots i 0 ≡ 0 → ⊥) {j : ℕ} (u : j ≡ get_or slots i 0 - 1) where
+    slot_is : get_or slots i 0 ≡ suc j
+    slot_is = omega (arith, taken)
+
+    pub in_entries : j < length es
+    in_entries = omega (arith, slot_is, x.at_slot.here, few.known i (omega (arith, x.at_slot.here)))
+
+    module _ (d : Entry T) {b : Bool} (s : b ≡ pointwise nat_eq n (get_or es j d).name.now) {r : ℕ} (z : r ≡ suc k) where
+      is_same : b ≡ same n (get_or (names_of es) j [])
+      is_same = same_is n (get_or es j d).name.now s ∙ ap (same n) (sym (get_or-map (λ (e : Entry T). e.name.now) es j d [] in_entries))
+
+      pub found_hit : b ≡ true → looked_of (record { found = rust.Some (get_or slots i 0 - 1); read = r }) ≡ search slots (names_of es) n
+      found_hit e = rw (← u) (searching_hit slots (names_of es) n x h slot_is (sym is_same ∙ e) z)
+
+      pub found_other : b ≡ false → Searching slots (names_of es) n ((i + 1) % 256) r
+      found_other e = searching_next slots (names_of es) n x h slot_is (sym is_same ∙ e) z
 
 -- ---- slots that are the index of some names
 
@@ -156,42 +175,14 @@ module _ {N : ℕ} (self : Members N) where
   few = omega (arith, many, self.fits, self.few)
 
   -- a member more
-  pub entry_more : (e : Entry (rust.Option ℕ)) {i m : ℕ} → i ≡ free_slot self.slots e.name.now → m ≡ length self.entries.items
+  pub entry_more : (e : Entry (rust.Option ℕ)) {m : ℕ} → m ≡ length self.entries.items → {slots : List ℕ} → slots ≡ put self.slots e.name.now m
       → position (same e.name.now) names ≡ none → {after : List (Entry (rust.Option ℕ))} → after ≡ self.entries.items ++ (e ∷ [])
-      → Indexed (set self.slots i (m + 1)) (names_of after)
-  unfolding put
-  entry_more e f z q g = rw (f, z, g, map-append, add-one, ← many) (indexed_more self.slots names self.indexed few e.name.now q)
+      → Indexed slots (names_of after)
+  entry_more e z f q g = rw (f, z, g, map-append, ← many) (indexed_more self.slots names self.indexed few e.name.now q)
 
-  -- what the loop that looks for a name finds
-  module _ (n : List ℕ) {i k : ℕ} (x : Searching self.slots names n i k) where
-    told : {r : Lookup} → looked_of r ≡ search self.slots names n → LooksUp names n r
-    told e = looked_up self.slots names self.indexed few n _ e
+  pub members_known : Slots self.slots (length self.entries.items)
+  members_known = record { known = λ i h. omega (arith, many, (indexed self.slots names self.indexed few).known i) }
 
-    pub found_free : k < 256 → get_or self.slots i 0 ≡ 0 → {r : ℕ} → r ≡ suc k → LooksUp names n (record { found = rust.None; read = r })
-    found_free h e q = told (searching_free self.slots names n x h e q)
-
-    pub found_nobody : 256 ≤ k → LooksUp names n (record { found = rust.None; read = 256 })
-    found_nobody h = told (searching_end self.slots names n x h)
-
-    module _ (h : k < 256) (taken : get_or self.slots i 0 ≡ 0 → ⊥) {j : ℕ} (u : j ≡ get_or self.slots i 0 - 1) where
-      slot_is : get_or self.slots i 0 ≡ suc j
-      slot_is = omega (arith, taken)
-
-      member_lt : j < length self.entries.items
-      member_lt = omega (arith, slot_is, (indexed self.slots names self.indexed few).known i, many)
-
-      module _ {es : List (Entry (rust.Option ℕ))} (w : es ≡ self.entries.items) where
-        pub in_entries : j < length es
-        in_entries = rw w member_lt
-
-        module _ (d : Entry (rust.Option ℕ)) {b : Bool} (s : b ≡ pointwise nat_eq n (get_or es j d).name.now) {r : ℕ} (z : r ≡ suc k) where
-          is_same : b ≡ same n (get_or names j [])
-          is_same =
-              same_is n (get_or es j d).name.now s
-              ∙ ap (same n) (rw w (sym (get_or-map (λ (e : Entry (rust.Option ℕ)). e.name.now) self.entries.items j d [] member_lt)))
-
-          pub found_hit : b ≡ true → LooksUp names n (record { found = rust.Some (get_or self.slots i 0 - 1); read = r })
-          found_hit e = rw (← u) (told (searching_hit self.slots names n x h slot_is (sym is_same ∙ e) z))
-
-          pub found_other : b ≡ false → Searching self.slots names n ((i + 1) % 256) r
-          found_other e = searching_next self.slots names n x h slot_is (sym is_same ∙ e) z
+  -- what a search of the members' slots tells
+  pub members_told : (n : List ℕ) (r : Lookup) → looked_of r ≡ search self.slots names n → LooksUp names n r
+  members_told n r e = looked_up self.slots names self.indexed few n r e

@@ -1,6 +1,5 @@
 -- The index as the code holds it: the entries of a sort's members, and what a lookup among them tells.
-use Rattle.std.specs.Prelude as rust
-use Rattle.std.specs.Prelude.{◌≡◌, List, map, ℕ, suc, ◌≤◌, length}
+use Rattle.std.specs.Prelude.{◌≡◌, List, map, ℕ, suc, ◌≤◌, ◌<◌, length, get_or}
 use Rattle.algebra.specs.Meant.{found_of}
 use Rattle.grammar.specs.Lookup.{same, position}
 use Rattle.name_index.specs.Index.{Searched, look_up}
@@ -14,6 +13,10 @@ names_of {T} es = map (λ (e : Entry T). e.name.now) es
 -- what else is held of them
 abbrev pub tags_of : {T : Type 0} → List (Entry T) → List T
 tags_of {T} es = map (λ (e : Entry T). e.tag) es
+
+-- no slot has a member beyond so many
+pub record Slots (slots : List ℕ) (count : ℕ) : Type 0 where
+  pub known : (i : ℕ) → i < 256 → get_or slots i 0 ≤ count
 
 abbrev pub looked_of : Lookup → Searched
 looked_of l = record { member = found_of l.found; read = l.read }

@@ -1,13 +1,13 @@
 // The index of a sort's names: 256 slots, of which a name's is the low eight bits of its FNV-1a value.
 #![tactic(auto)]
 
-ghost use Rattle.std.specs.Prelude.{◌≡◌, ◌+◌, ◌≤◌, ◌<◌, [], ◌∷◌, ◌++◌};
+ghost use Rattle.std.specs.Prelude.{◌≡◌, ◌+◌, ◌≤◌, ◌<◌, [], ◌∷◌, ◌++◌, length};
 ghost use Rattle.arrayvec.specs.ArrayVec.{array_vec_len};
 ghost use Rattle.std.proofs.Math.Option.{none};
 ghost use Rattle.grammar.specs.Lookup.{same, position};
 ghost use Rattle.name_index.specs.Hash.{fnv_step, slot_of};
-ghost use Rattle.name_index.specs.Index.{free_slot, Indexed};
-ghost use Rattle.name_index.specs.Entries.{names_of, LooksUp};
+ghost use Rattle.name_index.specs.Index.{search, free_slot, put, Indexed};
+ghost use Rattle.name_index.specs.Entries.{names_of, Slots, looked_of, LooksUp};
 
 use arrayvec::ArrayVec;
 
@@ -89,6 +89,43 @@ fn free_slot(slots: &[u8; SLOTS], name: &[u8]) -> usize
     free
 }
 
+// Puts in the name of member m, in the first free slot for it; the other slots stay as they are.
+#[tactic(auto, unfolding(crate::specs::Index::put))]
+pub fn insert(slots: &mut [u8; SLOTS], name: &[u8], m: u8)
+    requires { m < 255 }
+    ensures { slots.new ≡ put slots.old name.now m }
+{
+    let free = free_slot(slots, name);
+    slots[free] = m + 1;
+}
+
+// The entry that has the name, by these slots, and how many of them were read. No slot has a number beyond the entries; whether the slots
+// are their index is not asked.
+pub fn find<T>(slots: &[u8; SLOTS], entries: &[Entry<'_, T>], name: &[u8]) -> Lookup
+    requires { Slots slots.now (length entries.now) }
+    ensures { looked_of result ≡ search slots.now (names_of entries.now) name.now }
+{
+    let mut i = slot_of(name);
+    for read in 1..=SLOTS {
+        let slot = slots[i];
+        if slot == 0 {
+            return Lookup { found: None, read };
+        }
+        let member = slot - 1;
+        if name == entries[usize::from(member)].name {
+            return Lookup {
+                found: Some(member),
+                read,
+            };
+        }
+        i = (i + 1) % SLOTS;
+    }
+    Lookup {
+        found: None,
+        read: SLOTS,
+    }
+}
+
 impl<'a, const N: usize> Members<'a, N> {
     // Nobody is a member.
     #[tactic(auto, using(crate::proofs::Walks::none_indexed))]
@@ -106,26 +143,7 @@ impl<'a, const N: usize> Members<'a, N> {
     pub fn look(&self, name: &[u8]) -> Lookup
         ensures { LooksUp (names_of self.now.entries.items) name.now result }
     {
-        let entries = self.entries.as_slice();
-        let mut i = slot_of(name);
-        for read in 1..=SLOTS {
-            let slot = self.slots[i];
-            if slot == 0 {
-                return Lookup { found: None, read };
-            }
-            let member = slot - 1;
-            if name == entries[usize::from(member)].name {
-                return Lookup {
-                    found: Some(member),
-                    read,
-                };
-            }
-            i = (i + 1) % SLOTS;
-        }
-        Lookup {
-            found: None,
-            read: SLOTS,
-        }
+        find(&self.slots, self.entries.as_slice(), name)
     }
 
     // A member more, behind the others, whose name no other has.
@@ -134,8 +152,7 @@ impl<'a, const N: usize> Members<'a, N> {
         requires fresh { position (same name.now) (names_of self.old.entries.items) ≡ none }
         ensures { self.new.entries.items ≡ self.old.entries.items ++ record { name = name.entry; tag = parent } ∷ [] }
     {
-        let free = free_slot(&self.slots, name);
-        self.slots[free] = self.entries.len() as u8 + 1;
+        insert(&mut self.slots, name, self.entries.len() as u8);
         self.entries.push(Entry { name, tag: parent });
     }
 }

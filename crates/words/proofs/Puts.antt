@@ -51,6 +51,11 @@ settled_stored o i p n m e s =
     same_full p n m e full
     ∙ ap (λ (q : Nodes). stored q m) (sym (settled_is o i p (and_right (eqb (array_vec_len p.nodes) 193) (is_some p.missing) s)))
 
+-- a node after a name that stands at i: v is what the name was found as, q is p with the name noted
+pub noted_stored : (o : Option ℕ) (i : ℕ) (p : Nodes) {v : Option ℕ} {n m : Node} {q : Nodes} → v ≡ o → n ≡ m → q ≡ noted v i p
+    → stored q n ≡ stored (noted o i p) m
+noted_stored o i p f e g = rw (e, g, f)
+
 suffix_operators : (x : Suffix) (n m i : ℕ) → operators_after i (node_with x n) ≡ operators_after i (node_with x m)
 unfolding operators_after
 suffix_operators (Comparing s c) n m i = refl
@@ -66,7 +71,4 @@ module _ (number : Kind → List ℕ → Option ℕ) (x : Suffix) (n : List ℕ)
   pub named_stored : {v : Option ℕ} {m : ℕ} {q : Nodes} → v ≡ number (asked_as x) n → q ≡ noted v i p → m ≡ place v
       → stored q (node_with x m) ≡ emit_name number x n i p
   unfolding emit_name
-  named_stored {v} {m} {q} f g h =
-      let e : m ≡ place (number (asked_as x) n) = h ∙ ap place f in
-      let d : q ≡ noted (number (asked_as x) n) i p = g ∙ ap (λ (u : Option ℕ). noted u i p) f in
-      rw (d, e)
+  named_stored f g h = noted_stored (number (asked_as x) n) i p f (ap (node_with x) (h ∙ ap place f)) g
