@@ -31,6 +31,17 @@ impl<P: Print> Write for Gathered<'_, P> {
         self.text.write(bytes)
     }
 
+    // A failure is the last try: the library's method would go on for good where standard output says each time that it was interrupted.
+    fn write_all(&mut self, bytes: &[u8]) -> io::Result<()> {
+        for &b in bytes {
+            if self.text.is_full() {
+                self.flush()?;
+            }
+            let _ = self.text.try_push(b);
+        }
+        Ok(())
+    }
+
     fn flush(&mut self) -> io::Result<()> {
         self.to.write_all(self.text.as_slice())?;
         self.text.clear();
