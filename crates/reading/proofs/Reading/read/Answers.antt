@@ -63,6 +63,13 @@ loop-rest-preserved c =
       beyond = c.in_default.ensures.beyond ∙ beyond_later _ _ (2 * c.loop-rest.self.state.grants) _ (omega arith) I.beyond;
     }
 
+-- a file without an E line that is taken fails here
+pub returns-clause-read_as : goal.returns-clause-read_as
+returns-clause-read_as c =
+    let I = c.loop-rest.invariant in
+    let ended = differs_false the_type tt c.loop-rest.self.state.group Expression (sym c.ne-unended.ensures ∙ c.if-unended.false) in
+    all_read _ _ _ _ _ I.reached (grind (arith, nat_tests)) (ap group_number ended)
+
 pub returns-then-unended-clause-read_as : goal.returns-then-unended-clause-read_as
 returns-then-unended-clause-read_as c =
     let I = c.loop-rest.invariant in
@@ -79,13 +86,6 @@ returns-then-unended-clause-few_written c =
     let I = c.loop-rest.invariant in
     let r = I.reached.room in
     beyond_later _ _ (2 * c.loop-rest.self.state.grants) _ (omega arith) I.beyond
-
--- a file without an E line that is taken fails here
-pub returns-clause-read_as : goal.returns-clause-read_as
-returns-clause-read_as c =
-    let I = c.loop-rest.invariant in
-    let ended = differs_false the_type tt c.loop-rest.self.state.group Expression (sym c.ne-unended.ensures ∙ c.if-unended.false) in
-    all_read _ _ _ _ _ I.reached (grind (arith, nat_tests)) (ap group_number ended)
 
 pub returns-clause-few_written : goal.returns-clause-few_written
 returns-clause-few_written c =
