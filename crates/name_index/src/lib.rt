@@ -1,7 +1,7 @@
 // The index of a sort's names: 256 slots, of which a name's is the low eight bits of its FNV-1a value.
 #![tactic(auto)]
 
-ghost use Rattle.std.specs.Prelude.{◌≡◌, ◌+◌, ◌≤◌, ◌<◌, [], ◌∷◌, ◌++◌, length};
+ghost use Rattle.std.specs.Prelude.{⊤, ◌≡◌, ◌+◌, ◌≤◌, ◌<◌, [], ◌∷◌, ◌++◌, length};
 ghost use Rattle.arrayvec.specs.ArrayVec.{array_vec_len};
 ghost use Rattle.std.proofs.Math.Option.{none};
 ghost use Rattle.grammar.specs.Lookup.{same, position};
@@ -10,6 +10,7 @@ ghost use Rattle.name_index.specs.Index.{search, free_slot, put, Indexed};
 ghost use Rattle.name_index.specs.Entries.{names_of, Slots, looked_of, LooksUp};
 
 use arrayvec::ArrayVec;
+use std::alloc::AllocError;
 
 // How many slots an index has.
 const SLOTS: usize = 256;
@@ -46,6 +47,20 @@ pub struct Members<'a, const N: usize> {
     pub ghost few: { N ≤ 255 },
     pub ghost fits: { array_vec_len entries ≤ N },
     pub ghost indexed: { Indexed slots (names_of entries.items) },
+}
+
+// A clone is the same members by the same slots, and none fails.
+impl<'a, const N: usize> Clone for Members<'a, N> {
+    ghost is_clone = { λ m c. c ≡ m };
+
+    ghost is_infallible = { λ _. ⊤ };
+
+    fn clone(&self) -> Result<Self, AllocError> {
+        Ok(Members {
+            entries: self.entries.clone()?,
+            slots: self.slots,
+        })
+    }
 }
 
 // ---- FNV-1a

@@ -1,10 +1,11 @@
 // The names that are declared in a file.
-ghost use Rattle.std.specs.Prelude.{◌≤◌};
+ghost use Rattle.std.specs.Prelude.{⊤, ◌≡◌, ◌≤◌};
 ghost use Rattle.arrayvec.specs.ArrayVec.{array_vec_len};
 
 use algebra::Sort;
 use arrayvec::ArrayVec;
 use name_index::{Entry, Members};
+use std::alloc::AllocError;
 
 // How many actions a file may declare, and how many predicates, tables and rule sets each.
 pub const MOST_ACTIONS: usize = 16;
@@ -26,6 +27,24 @@ pub struct Names<'a, const ACTIONS: usize, const OTHERS: usize> {
     pub ghost few_predicates: { array_vec_len predicates ≤ OTHERS },
     pub ghost few_tables: { array_vec_len tables ≤ OTHERS },
     pub ghost few_sets: { array_vec_len sets ≤ OTHERS },
+}
+
+// A clone is the same names, and none fails.
+impl<'a, const ACTIONS: usize, const OTHERS: usize> Clone for Names<'a, ACTIONS, OTHERS> {
+    ghost is_clone = { λ n c. c ≡ n };
+
+    ghost is_infallible = { λ _. ⊤ };
+
+    fn clone(&self) -> Result<Self, AllocError> {
+        Ok(Names {
+            subjects: self.subjects.clone()?,
+            objects: self.objects.clone()?,
+            actions: self.actions.clone()?,
+            predicates: self.predicates.clone()?,
+            tables: self.tables.clone()?,
+            sets: self.sets.clone()?,
+        })
+    }
 }
 
 // The names of a file, with room for just those that it may declare.

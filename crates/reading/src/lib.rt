@@ -18,7 +18,7 @@ use state::{FileState, Group};
 use words::Nodes;
 
 // What a file declares: the state after its lines, and the goal of its E line.
-#[derive(Drop)]
+#[derive(Clone, Drop)]
 pub struct Reading<'a> {
     pub state: FileState<'a>,
     pub goal: Goal,
