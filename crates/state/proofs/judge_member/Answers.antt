@@ -1,7 +1,7 @@
 use Rattle.algebra.specs.Meant.{found_of}
 use mathlib.Core.Path.{refl, sym, ap, ◌∙◌}
 use Rattle.state.proofs.Names.{member_4, member_7, member_5, member_good}
-use Rattle.state.proofs.State.judge_member.Goals as goal
+use Rattle.state.proofs.judge_member.Goals as goal
 
 pub returns-then-late-clause-judged : goal.returns-then-late-clause-judged
 returns-then-late-clause-judged g c d ns e =

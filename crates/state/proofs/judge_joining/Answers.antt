@@ -1,7 +1,7 @@
 use mathlib.Core.Path.{refl}
 use Rattle.std.proofs.lemmas.Result.{err_from_is_err_and}
 use Rattle.state.proofs.Names.{root_joins, parent_missing, child_joins}
-use Rattle.state.proofs.State.judge_joining.Goals as goal
+use Rattle.state.proofs.judge_joining.Goals as goal
 
 pub returns-in_default-clause-joins : goal.returns-in_default-clause-joins
 returns-in_default-clause-joins g c d ns e = rw c.in_default.is (root_joins _ d ns _ refl _ e _ _ (c.in_ok-judge_member.ensures.judged d ns e))

@@ -7,7 +7,7 @@ use native.Mathlib.Omega.{arith}
 use Rattle.state.proofs.Found.{found_small}
 use Rattle.state.proofs.Turns.{turn_ok}
 use Rattle.state.proofs.Names.{predicate_late, predicate_7, known_6, known_good, fresh_6, fresh_good}
-use Rattle.state.proofs.State.judge_predicate.Goals as goal
+use Rattle.state.proofs.judge_predicate.Goals as goal
 
 pub returns-in_err-in_turn-clause-judged : goal.returns-in_err-in_turn-clause-judged
 returns-in_err-in_turn-clause-judged g c d ns e =
@@ -48,7 +48,7 @@ returns-in_ok-declared-in-None-clause-judged g c d ns e =
 
 pub returns-in_ok-declared-in-Some-clause-fits : goal.returns-in_ok-declared-in-Some-clause-fits
 returns-in_ok-declared-in-Some-clause-fits g c =
-    let names = c.args.self.now.names in
+    let names = c.args.names.now in
     let σ = sort_meant c.args.s in
     let i = looked_lt names (Kinds.predicate σ) _ (sym c.look.ensures ∙ ap found_of c.in-Some.is) in
     let k = names.few_predicates in

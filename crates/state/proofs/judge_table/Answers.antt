@@ -5,7 +5,7 @@ use Rattle.std.specs.Prelude as rust
 use Rattle.algebra.specs.Meant.{found_of}
 use Rattle.grammar.specs.Lookup.{found}
 use Rattle.state.proofs.Names.{table_judged, table_room}
-use Rattle.state.proofs.State.judge_table.Goals as goal
+use Rattle.state.proofs.judge_table.Goals as goal
 
 there : (o : rust.Option ℕ) → rust.is_some o ≡ found (found_of o)
 unfolding found

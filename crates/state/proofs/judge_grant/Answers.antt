@@ -8,7 +8,7 @@ use Rattle.names.proofs.Bounds.{looked_lt}
 use Rattle.state.proofs.Found.{few_total, access_few, here_tag}
 use Rattle.state.proofs.Turns.{turn_ok}
 use Rattle.state.proofs.Grants.{grant_late, grant_6, grant_10, grant_good}
-use Rattle.state.proofs.FileState.judge_grant.Goals as goal
+use Rattle.state.proofs.judge_grant.Goals as goal
 
 pub returns-in_err-in_turn : goal.returns-in_err-in_turn
 returns-in_err-in_turn c d ns g =
@@ -50,19 +50,19 @@ returns-in_err-action c d ns g =
     c.in_ok-object.ensures c.in_err-action.ensures.0 refl)
 
 pub bounds-deref-k : goal.bounds-deref-k
-bounds-deref-k c = rw (c.deref.ensures.0, c.from-k.ensures) (looked_lt c.args.self.now.names Kinds.table _ c.in_ok-table.ensures)
+bounds-deref-k c = rw (c.deref.ensures.0, c.from-k.ensures) (looked_lt c.args.names.now Kinds.table _ c.in_ok-table.ensures)
 
 pub returns-then-not-deref-k : goal.returns-then-not-deref-k
 returns-then-not-deref-k c d ns g =
     let turn = turn_ok _ _ (sym c.in_ok-in_turn.ensures) in
     grant_10 _ d ns _ c.counts-n.ensures _ g _ _ _ _ turn.0 turn.1 c.in_ok-table.ensures c.in_ok-subject.ensures c.in_ok-object.ensures c.in_ok-action.ensures
-    (sym (here_tag ns _ (looked_lt c.args.self.now.names Kinds.table _ c.in_ok-table.ensures) _)
+    (sym (here_tag ns _ (looked_lt c.args.names.now Kinds.table _ c.in_ok-table.ensures) _)
     ∙ rw (c.deref.ensures.0, c.from-k.ensures) at c.if-not-deref-k.true)
 
 pub overflow_cast-result : goal.overflow_cast-result
 overflow_cast-result c =
     let turn = turn_ok _ _ (sym c.in_ok-in_turn.ensures) in
-    let names = c.args.self.now.names in
+    let names = c.args.names.now in
     let h = looked_lt names Kinds.table _ c.in_ok-table.ensures in
     let w = c.from-k.ensures in
     let k = names.few_tables in
@@ -76,6 +76,6 @@ returns c d ns g =
     let turn = turn_ok _ _ (sym c.in_ok-in_turn.ensures) in
     grant_good _ d ns _ c.counts-n.ensures _ g _ _ _ _ turn.0 turn.1 c.in_ok-table.ensures c.in_ok-subject.ensures c.in_ok-object.ensures
     c.in_ok-action.ensures
-    (sym (here_tag ns _ (looked_lt c.args.self.now.names Kinds.table _ c.in_ok-table.ensures) _)
+    (sym (here_tag ns _ (looked_lt c.args.names.now Kinds.table _ c.in_ok-table.ensures) _)
     ∙ rw (c.deref.ensures.0, c.from-k.ensures) at c.if-not-deref-k.false)
-    (few_total c.args.self.now.names _ c.counts-n.ensures _ turn.1 c.requires.counted) _ (rw (c.from-k.ensures, c.access-g.ensures.value))
+    (few_total c.args.names.now _ c.counts-n.ensures _ turn.1 c.requires.counted) _ (rw (c.from-k.ensures, c.access-g.ensures.value))
