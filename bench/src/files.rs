@@ -74,6 +74,20 @@ fn in_line(expression: &str) -> Vec<u8> {
     file
 }
 
+/// The same members and grants; one rule passes accesses to all below, beside 63 rules of other sets that no closure here goes by.
+fn among_other_sets(expression: &str) -> Vec<u8> {
+    let below = |kind: &str, letter: &str| -> String {
+        (0..64).map(|n| format!("{kind},{letter}{n},{}\n", if n == 0 { "-".to_string() } else { format!("{letter}{}", n - 1) })).collect()
+    };
+    let mut file = below("S", "u") + &below("O", "v") + "A,z,-\nT,b,here\n";
+    file += &(0..64).map(|n| format!("G,b,u0,v{n},z\n")).collect::<String>();
+    file += "R,next,?0,?1,?2\nB,grant,?3,?1,?2\nB,le,S,?0,?3\n";
+    file += &(0..63).map(|n| format!("R,other{},?0,?1,?2\nB,grant,?0,?1,?2\n", n % 15)).collect::<String>();
+    let file = (file + &format!("E,4096,{expression}\n")).into_bytes();
+    assert_eq!(evaluator::check(&file), Ok([64, 64, 1]), "{expression}");
+    file
+}
+
 /// A text so many times, with joins between.
 fn joined(text: &str, times: usize) -> String {
     let more = |n: usize| ["+", "&", "-"][n % 3].to_string() + text;
@@ -111,5 +125,6 @@ pub fn made() -> Vec<(String, Vec<u8>)> {
         ("64 × 64, four bindings, each used 14 times".to_string(), in_line(&four_bindings())),
         ("64 × 64, a closure in a template, used 30 times".to_string(), in_line(&format!("(t:x.{})(b*next)", joined("x", 30)))),
         ("64 × 64, the same written out".to_string(), in_line(&joined("b*next", 30))),
+        ("64 × 64, a closure of one rule, 63 rules of other sets, 32 times".to_string(), among_other_sets(&joined("b*next", 32))),
     ]
 }
