@@ -6,7 +6,7 @@ use Rattle.std.specs.Prelude as rust
 use Rattle.std.proofs.Math.ListN.{get_or-append}
 use Rattle.std.proofs.Math.Option.{Option, none, some, or_else}
 use Rattle.std.proofs.Math.Seq.{get_or-append_seam}
-use Rattle.arrayvec.specs.ArrayVec.{array_vec_len}
+use Rattle.short_list.specs.ShortList.{how_many}
 use borrow.Author.Tests.{ltb-true, ltb-false, lt-ltb}
 use Rattle.algebra.specs.Sort.{Sort, subject, object, action}
 use Rattle.algebra.specs.Order.{Op, le, ge, lt, gt, eq}
@@ -40,34 +40,34 @@ use Rattle.words.proofs.Within.{filled_e}
 -- ---- one node more
 
 module _ (p : Nodes) (n : Node) where
-  stored_used : array_vec_len p.nodes ≤ most_nodes → array_vec_len (stored p n).nodes ≡ min most_nodes (array_vec_len p.nodes + 1)
+  stored_used : how_many p.nodes ≤ most_nodes → how_many (stored p n).nodes ≡ min most_nodes (how_many p.nodes + 1)
   unfolding stored
-  stored_used h = go (ltb (array_vec_len p.nodes) most_nodes) refl
+  stored_used h = go (ltb (how_many p.nodes) most_nodes) refl
     where
-      go : (b : Bool) → ltb (array_vec_len p.nodes) most_nodes ≡ b → array_vec_len (stored p n).nodes ≡ min most_nodes (array_vec_len p.nodes + 1)
-      go true e = rw e (omega (arith, ltb-true (array_vec_len p.nodes) most_nodes e, length-append p.nodes.items (n ∷ [])))
-      go false e = rw e (omega (arith, ltb-false (array_vec_len p.nodes) most_nodes e))
+      go : (b : Bool) → ltb (how_many p.nodes) most_nodes ≡ b → how_many (stored p n).nodes ≡ min most_nodes (how_many p.nodes + 1)
+      go true e = rw e (omega (arith, ltb-true (how_many p.nodes) most_nodes e, length-append p.nodes.items (n ∷ [])))
+      go false e = rw e (omega (arith, ltb-false (how_many p.nodes) most_nodes e))
 
   -- the nodes before stay
-  stored_below : (j : ℕ) → j < array_vec_len p.nodes → get_or (stored p n).nodes.items j Template ≡ get_or p.nodes.items j Template
+  stored_below : (j : ℕ) → j < how_many p.nodes → get_or (stored p n).nodes.items j Template ≡ get_or p.nodes.items j Template
   unfolding stored
-  stored_below j l = go (ltb (array_vec_len p.nodes) most_nodes) refl
+  stored_below j l = go (ltb (how_many p.nodes) most_nodes) refl
     where
-      go : (b : Bool) → ltb (array_vec_len p.nodes) most_nodes ≡ b → get_or (stored p n).nodes.items j Template ≡ get_or p.nodes.items j Template
+      go : (b : Bool) → ltb (how_many p.nodes) most_nodes ≡ b → get_or (stored p n).nodes.items j Template ≡ get_or p.nodes.items j Template
       go true e = rw e (get_or-append p.nodes.items (n ∷ []) Template j l)
       go false e = rw e
 
-  stored_own : array_vec_len p.nodes < most_nodes → get_or (stored p n).nodes.items (array_vec_len p.nodes) Template ≡ n
+  stored_own : how_many p.nodes < most_nodes → get_or (stored p n).nodes.items (how_many p.nodes) Template ≡ n
   unfolding stored
-  stored_own l = rw (lt-ltb (array_vec_len p.nodes) most_nodes l) (get_or-append_seam p.nodes.items n [] Template)
+  stored_own l = rw (lt-ltb (how_many p.nodes) most_nodes l) (get_or-append_seam p.nodes.items n [] Template)
 
 -- ---- a tree's nodes, one after another
 
 -- p' is p with the nodes of t after it, if there is room for them; the count stops at its bound
 pub record Counts (p p' : Nodes) (t : Tree policy.Scope) : Type 0 where
-  pub used_is : array_vec_len p.nodes ≤ most_nodes → array_vec_len p'.nodes ≡ min most_nodes (array_vec_len p.nodes + size t)
-  pub before : array_vec_len p.nodes ≤ most_nodes → (j : ℕ) → j < array_vec_len p.nodes → get_or p'.nodes.items j Template ≡ get_or p.nodes.items j Template
-  pub nodes : array_vec_len p.nodes + size t ≤ most_nodes → Encodes (label p'.nodes.items) t (array_vec_len p.nodes) (array_vec_len p'.nodes)
+  pub used_is : how_many p.nodes ≤ most_nodes → how_many p'.nodes ≡ min most_nodes (how_many p.nodes + size t)
+  pub before : how_many p.nodes ≤ most_nodes → (j : ℕ) → j < how_many p.nodes → get_or p'.nodes.items j Template ≡ get_or p.nodes.items j Template
+  pub nodes : how_many p.nodes + size t ≤ most_nodes → Encodes (label p'.nodes.items) t (how_many p.nodes) (how_many p'.nodes)
   pub operators_add : p.operators ≤ most_count → p'.operators ≡ min (p.operators + operators t) most_count
 
 -- a node that is an operator
@@ -83,8 +83,8 @@ counted_is i h = go (ltb i most_count) refl
     go false e = omega (arith, ltb-false i most_count e)
 
 -- a node where it is put
-own_node : (p : Nodes) (n : Node) {s : meanings.Node policy.Scope} → node_meant n ≡ s → array_vec_len p.nodes < most_nodes
-    → label (stored p n).nodes.items (array_vec_len p.nodes) ≡ s
+own_node : (p : Nodes) (n : Node) {s : meanings.Node policy.Scope} → node_meant n ≡ s → how_many p.nodes < most_nodes
+    → label (stored p n).nodes.items (how_many p.nodes) ≡ s
 own_node p n e l = ap node_meant (stored_own p n l) ∙ e
 
 -- the code's sorts, comparisons and signs are those of the definitions
@@ -117,7 +117,7 @@ module _ (p : Nodes) where
         used_is = stored_used p n;
         before = λ h. stored_below p n;
         nodes = λ l. ends_at (omega (arith, stored_used p n (omega arith)))
-            (more_table (label p.nodes.items) (label (stored p n).nodes.items) (array_vec_len p.nodes) (λ k i. ap node_meant (stored_below p n k i)) m
+            (more_table (label p.nodes.items) (label (stored p n).nodes.items) (how_many p.nodes) (λ k i. ap node_meant (stored_below p n k i)) m
             (own_node p n refl (omega arith)));
         operators_add = table_operators m;
       }
@@ -150,7 +150,7 @@ module _ (p : Nodes) where
             let a = x.used_is (omega arith) in
             let b = y.used_is (omega arith) in
             ends_at (omega (arith, stored_used p₂ n (omega arith)))
-            (larger (label p₂.nodes.items) (label (stored p₂ n).nodes.items) (array_vec_len p.nodes) (array_vec_len p₁.nodes) (array_vec_len p₂.nodes)
+            (larger (label p₂.nodes.items) (label (stored p₂ n).nodes.items) (how_many p.nodes) (how_many p₁.nodes) (how_many p₂.nodes)
             (λ k i. ap node_meant (stored_below p₂ n k i)) (own_node p₂ n refl (omega arith))
             (encodes_same (λ k i q. ap node_meant (y.before (omega arith) k q)) (x.nodes (omega arith))) (y.nodes (omega arith)));
         operators_add = λ z. binary_operators n p₁ p₂ l r t' o ops x.operators_add y.operators_add z;
@@ -201,7 +201,7 @@ module _ (p : Nodes) where
             let b = y.used_is (omega arith) in
             let d = w.used_is (omega arith) in
             ends_at (omega (arith, stored_used p₃ n (omega arith)))
-            (more_override (label p₃.nodes.items) (label (stored p₃ n).nodes.items) (array_vec_len p₃.nodes) (λ k i. ap node_meant (stored_below p₃ n k i))
+            (more_override (label p₃.nodes.items) (label (stored p₃ n).nodes.items) (how_many p₃.nodes) (λ k i. ap node_meant (stored_below p₃ n k i))
             (own_node p₃ n refl (omega arith))
             (encodes_same (λ k i q. ap node_meant (w.before (omega arith) k (omega arith) ∙ y.before (omega arith) k q)) (x.nodes (omega arith)))
             (encodes_same (λ k i q. ap node_meant (w.before (omega arith) k q)) (y.nodes (omega arith)))
@@ -227,7 +227,7 @@ module _ (p : Nodes) where
         nodes = λ room.
             let a = x.used_is (omega arith) in
             ends_at (omega (arith, stored_used p₁ n (omega arith)))
-            (larger (label p₁.nodes.items) (label (stored p₁ n).nodes.items) (array_vec_len p.nodes) (array_vec_len p₁.nodes)
+            (larger (label p₁.nodes.items) (label (stored p₁ n).nodes.items) (how_many p.nodes) (how_many p₁.nodes)
             (λ k i. ap node_meant (stored_below p₁ n k i)) (own_node p₁ n refl (omega arith)) (x.nodes (omega arith)));
         operators_add = λ z. unary_operators n p₁ t t' o ops x.operators_add z;
       }
@@ -486,11 +486,11 @@ module _ (number : Kind → List ℕ → Option ℕ) where
   yields e p z =
       let t = tree_of number e in
       let x = counts_e [] e 0 p in
-      let u : array_vec_len p.nodes ≡ 0 = ap length z.no_nodes in
+      let u : how_many p.nodes ≡ 0 = ap length z.no_nodes in
       let fill = filled_e number [] e 0 p record { few = omega arith; within = λ m j b. absurd (omega arith) } in
       record {
         few = fill.few;
-        tree = λ o. subst (λ i. Encodes (label (emit_e number [] e 0 p).nodes.items) t i (array_vec_len (emit_e number [] e 0 p).nodes)) u
+        tree = λ o. subst (λ i. Encodes (label (emit_e number [] e 0 p).nodes.items) t i (how_many (emit_e number [] e 0 p).nodes)) u
             (x.nodes (omega (arith, size_le t)));
         operators_are = omega (arith, z.no_operators, x.operators_add (omega (arith, z.no_operators)));
         missing_is = misses_e [] e 0 p ∙ ap (λ (m : rust.Option ℕ). or_else (found_of m) (first_missing (declared []) (names_e e 0))) z.no_place;

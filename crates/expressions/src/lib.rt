@@ -6,6 +6,7 @@ mod text_reader;
 
 ghost use Rattle.std.specs.Prelude.{◌≡◌, true, ◌+◌, ◌≤◌, ◌<◌, get_or};
 ghost use Rattle.arrayvec.specs.ArrayVec.{array_vec_len};
+ghost use Rattle.short_list.specs.ShortList.{how_many};
 ghost use Rattle.words.specs.Contract.{suffix_byte, SuffixAt, SuffixesAt, PrimaryAt, FactorAt, MoreAt, ExpressionAt, OverrideAt};
 ghost use Rattle.words.specs.Contract.{FillingAt, TemplateAt, Answer};
 ghost use Rattle.names.specs.Looks.{lookup_of};
@@ -189,7 +190,7 @@ pub fn read<const ACTIONS: usize, const OTHERS: usize>(
     text: &[u8],
     names: &Names<'_, ACTIONS, OTHERS>,
 ) -> Result<Nodes, usize>
-    requires { array_vec_len names.now.tables ≤ 16 }
+    requires { how_many names.now.tables ≤ 16 }
     ensures { Answer (lookup_of names.now) text.now result }
 {
     let mut reader = Reader {

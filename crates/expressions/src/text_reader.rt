@@ -1,6 +1,7 @@
 // What reads an expression.
 ghost use Rattle.std.specs.Prelude.{◌+◌, ◌≤◌, length};
 ghost use Rattle.arrayvec.specs.ArrayVec.{array_vec_len};
+ghost use Rattle.short_list.specs.ShortList.{how_many};
 
 use arrayvec::ArrayVec;
 use names::Names;
@@ -19,5 +20,5 @@ pub struct Reader<'t, 'n, 'f, const ACTIONS: usize, const OTHERS: usize> {
     pub ghost within: { at ≤ length text.now },
     // a bound name has its bracket open
     pub ghost few: { array_vec_len bound + allow ≤ 32 },
-    pub ghost few_tables: { array_vec_len names.now.tables ≤ 16 },
+    pub ghost few_tables: { how_many names.now.tables ≤ 16 },
 }

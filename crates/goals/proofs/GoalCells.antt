@@ -1,6 +1,6 @@
 -- The numbers in a good goal's nodes are in the ranges that a run asks for, and so are those of the tables that its tree uses.
 use Rattle.std.proofs.Common.{◌∙◌, List, ℕ, ◌<◌, get_or, arith}
-use Rattle.arrayvec.specs.ArrayVec.{array_vec_len}
+use Rattle.short_list.specs.ShortList.{how_many}
 use Rattle.algebra.specs.Algebra.{Uses}
 use Rattle.algebra.specs.Meant.{sort_meant}
 use Rattle.algebra.specs.declared.Scope.TheVariants.{Compared, Marked}
@@ -35,8 +35,8 @@ module _ (names : NamesOfFile) (d : Declared) (N : NamesHeld names d) where
   within_fits Template h = tt
 
 module _ (w : List ℕ) (st : StateOfFile) (d : Declared) (limit : ℕ) (t : List ℕ) (p : Nodes) (G : GoalGood d limit t p) where
-  pub goal_cells : Stands w st d → (j : ℕ) → j < array_vec_len p.nodes → NodeFits st.names (get_or p.nodes.items j Template)
+  pub goal_cells : Stands w st d → (j : ℕ) → j < how_many p.nodes → NodeFits st.names (get_or p.nodes.items j Template)
   goal_cells S j l = within_fits st.names d S.names _ (G.within j l)
 
-  pub goal_tables : Stands w st d → (i : ℕ) → Uses (tree_of (lookup d) G.expression) i → i < array_vec_len st.names.tables
+  pub goal_tables : Stands w st d → (i : ℕ) → Uses (tree_of (lookup d) G.expression) i → i < how_many st.names.tables
   goal_tables S i u = number_lt st.names d S.names table i (G.tables i u)

@@ -10,7 +10,7 @@ use Rattle.algebra.specs.Policy as policy
 use Rattle.algebra.specs.Sort.{Sort, subject, object, action}
 use Rattle.algebra.specs.StoredFrame.{size_of}
 use Rattle.algebra.specs.declared.Counts.{Counts}
-use Rattle.arrayvec.specs.ArrayVec.{array_vec_len}
+use Rattle.short_list.specs.ShortList.{how_many}
 use Rattle.algebra.specs.Nodes.{Encodes}
 use Rattle.algebra.specs.Meant.{found_of}
 use Rattle.grammar.specs.Expression.{Exp}
@@ -187,7 +187,7 @@ module _ {A K : ℕ} (names : Names A K) (n : Counts) (n_is : n ≡ counts_of na
             few_operators : operators tree ≤ 64
             few_operators = omega (arith, whole.yields.operators_are)
 
-            coded : Encodes (label p.nodes.items) tree 0 (array_vec_len p.nodes)
+            coded : Encodes (label p.nodes.items) tree 0 (how_many p.nodes)
             coded = whole.yields.tree few_operators
 
             counted_are : (r.start ≡ 0) × (r.sets ≡ held tree) × (r.bindings ≡ bindings tree)

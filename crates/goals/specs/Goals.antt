@@ -4,7 +4,7 @@ use Rattle.algebra.specs.Algebra.{Uses, operators, held, bindings}
 use Rattle.algebra.specs.Nodes.{Encodes}
 use Rattle.algebra.specs.Meant.{sort_meant}
 use Rattle.algebra.specs.declared.Scope.TheVariants.{Compared, Marked}
-use Rattle.arrayvec.specs.ArrayVec.{array_vec_len}
+use Rattle.short_list.specs.ShortList.{how_many}
 use Rattle.grammar.specs.Expression.{Exp}
 use Rattle.grammar.specs.Machine.{read, reading}
 use Rattle.grammar.specs.Names.{table}
@@ -30,9 +30,9 @@ use Rattle.goals.specs.declared.Goal.{Goal}
 pub record GoalGood (d : Declared) (limit : ℕ) (t : List ℕ) (p : Nodes) : Type 0 where
   pub expression : Exp
   pub reads : reading t ≡ read expression
-  pub tree : Encodes (label p.nodes.items) (tree_of (lookup d) expression) 0 (array_vec_len p.nodes)
-  pub few_nodes : array_vec_len p.nodes ≤ 193
-  pub within : (j : ℕ) → j < array_vec_len p.nodes → NodeWithin (lookup d) (get_or p.nodes.items j Template)
+  pub tree : Encodes (label p.nodes.items) (tree_of (lookup d) expression) 0 (how_many p.nodes)
+  pub few_nodes : how_many p.nodes ≤ 193
+  pub within : (j : ℕ) → j < how_many p.nodes → NodeWithin (lookup d) (get_or p.nodes.items j Template)
   pub limited : limit ≤ 4096
   pub few_held : held (tree_of (lookup d) expression) ≤ 14
   pub few_operators : operators (tree_of (lookup d) expression) ≤ 64

@@ -2,7 +2,7 @@
 #![tactic(auto)]
 
 ghost use Rattle.std.specs.Prelude.{◌≡◌, ◌≤◌};
-ghost use Rattle.arrayvec.specs.ArrayVec.{array_vec_len};
+ghost use Rattle.short_list.specs.ShortList.{how_many};
 ghost use Rattle.reader.specs.Declarations.{Declared};
 ghost use Rattle.state.specs.Standing.{group_number, NamesStand};
 ghost use Rattle.goals.specs.Goals.{GoalJudged};
@@ -15,7 +15,7 @@ use state::{Group, in_turn};
 use words::Nodes;
 
 // What an E line declares: a limit, and the nodes of its expression.
-#[derive(Clone, Drop)]
+#[derive(Clone, Copy)]
 pub struct Goal {
     pub limit: u16,
     pub nodes: Nodes,
@@ -55,7 +55,7 @@ pub fn judge_expression<const ACTIONS: usize, const OTHERS: usize>(
     limit: u16,
     t: &[u8],
 ) -> Result<Goal, Fault>
-    requires { array_vec_len names.now.tables ≤ 16 }
+    requires { how_many names.now.tables ≤ 16 }
     ensures { (d : Declared) → NamesStand names.now d → d.group ≡ group_number group → GoalJudged d limit t.now result }
 {
     in_turn(group, Group::Expression, names.counts())?;

@@ -2,14 +2,14 @@
 #![tactic(auto)]
 
 ghost use Rattle.std.specs.Prelude.{⊤, ◌≡◌, ◌+◌, ◌≤◌, ◌<◌, [], ◌∷◌, ◌++◌, length};
-ghost use Rattle.arrayvec.specs.ArrayVec.{array_vec_len};
+ghost use Rattle.short_list.specs.ShortList.{how_many};
 ghost use Rattle.std.proofs.Math.Option.{none};
 ghost use Rattle.grammar.specs.Lookup.{same, position};
 ghost use Rattle.name_index.specs.Hash.{fnv_step, slot_of};
 ghost use Rattle.name_index.specs.Index.{search, free_slot, put, Indexed};
 ghost use Rattle.name_index.specs.Entries.{names_of, Slots, looked_of, LooksUp};
 
-use arrayvec::ArrayVec;
+use short_list::ShortList;
 use std::alloc::AllocError;
 
 // How many slots an index has.
@@ -40,12 +40,12 @@ pub struct Lookup {
 
 // The members of a sort in file order, each with its parent's number, and the index of their names, which are distinct.
 // A slot is 0 where it is free, and a member's number and 1 where it is taken.
-#[derive(Drop)]
+#[derive(Copy)]
 pub struct Members<'a, const N: usize> {
-    pub entries: ArrayVec<Entry<'a, Option<u8>>, N>,
+    pub entries: ShortList<Entry<'a, Option<u8>>, N>,
     pub slots: [u8; SLOTS],
     pub ghost few: { N ≤ 255 },
-    pub ghost fits: { array_vec_len entries ≤ N },
+    pub ghost fits: { how_many entries ≤ N },
     pub ghost indexed: { Indexed slots (names_of entries.items) },
 }
 
@@ -149,7 +149,7 @@ impl<'a, const N: usize> Members<'a, N> {
         ensures { result.entries.items ≡ [] }
     {
         Members {
-            entries: ArrayVec::new(),
+            entries: ShortList::new(),
             slots: [0; SLOTS],
         }
     }
@@ -163,7 +163,7 @@ impl<'a, const N: usize> Members<'a, N> {
 
     // A member more, behind the others, whose name no other has.
     pub fn add(&mut self, name: &'a [u8], parent: Option<u8>)
-        requires room { array_vec_len self.old.entries < N }
+        requires room { how_many self.old.entries < N }
         requires fresh { position (same name.now) (names_of self.old.entries.items) ≡ none }
         ensures { self.new.entries.items ≡ self.old.entries.items ++ record { name = name.entry; tag = parent } ∷ [] }
     {

@@ -12,8 +12,8 @@ ghost use Rattle.name_index.specs.Entries.{names_of, LooksUp};
 ghost use Rattle.names.specs.Looks.{kind_of, is_predicate, lookup_of, members_of, member_count, most_members, counts_of, Added};
 
 use algebra::{Counts, Sort};
-use arrayvec::ArrayVec;
 use name_index::{Entry, Lookup, Members};
+use short_list::ShortList;
 pub use table::{FileNames, MOST_ACTIONS, MOST_OTHERS, Names};
 
 // What a name is asked for as.
@@ -65,9 +65,9 @@ impl<'a, const ACTIONS: usize, const OTHERS: usize> Names<'a, ACTIONS, OTHERS> {
             subjects: Members::new(),
             objects: Members::new(),
             actions: Members::new(),
-            predicates: ArrayVec::new(),
-            tables: ArrayVec::new(),
-            sets: ArrayVec::new(),
+            predicates: ShortList::new(),
+            tables: ShortList::new(),
+            sets: ShortList::new(),
         }
     }
 

@@ -1,7 +1,7 @@
 // Reads a policy file: its lines one after the other, each refused by the first row that it meets or added to the state.
 #![tactic(auto)]
 
-ghost use Rattle.std.specs.Prelude.{◌≡◌, List, ℕ, ◌+◌, ◌*◌, ◌/◌, ◌<◌, length, drop, IfOk, IfErr, OnErr};
+ghost use Rattle.std.specs.Prelude.{⊤, ◌≡◌, List, ℕ, ◌+◌, ◌*◌, ◌/◌, ◌<◌, length, drop, IfOk, IfErr, OnErr};
 ghost use Rattle.reader.specs.Declarations.{Declared, start, group_of};
 ghost use Rattle.reader.specs.Line.{expression_line, parse};
 ghost use Rattle.lines.specs.Parsed.{line_of};
@@ -15,13 +15,28 @@ use lines::text::{is_file, piece_end};
 use rows::{Refusal, Refused};
 use rule_lines::{add_body, add_rule};
 use state::{FileState, Group};
+use std::alloc::AllocError;
 use words::Nodes;
 
 // What a file declares: the state after its lines, and the goal of its E line.
-#[derive(Clone, Drop)]
+#[derive(Copy)]
 pub struct Reading<'a> {
     pub state: FileState<'a>,
     pub goal: Goal,
+}
+
+// A clone is the same reading, and none fails.
+impl<'a> Clone for Reading<'a> {
+    ghost is_clone = { λ r c. c ≡ r };
+
+    ghost is_infallible = { λ _. ⊤ };
+
+    fn clone(&self) -> Result<Self, AllocError> {
+        Ok(Reading {
+            state: self.state.clone()?,
+            goal: self.goal,
+        })
+    }
 }
 
 // A line of any kind but E: refused, or added to the state. The grant of a G line goes to the lent memory.

@@ -6,7 +6,7 @@ use Prim.Native.Nat.{ℕ, ◌+◌, ◌*◌}
 use native.Mathlib.Omega.{arith}
 use lib.Dec.{eqb}
 use lib.ListN.{length, replicate, get_or-replicate}
-use Rattle.arrayvec.specs.ArrayVec.{ArrayVec}
+use Rattle.short_list.specs.ShortList.{ShortList}
 use Rattle.algebra.specs.Lists.{any}
 use Rattle.algebra.specs.Sort.{Sort, subject, object, action}
 use Rattle.algebra.specs.Meant.{rule_meant}
@@ -38,7 +38,7 @@ module _ {A K : ℕ} (names : Names A K) (subjects : names.subjects.entries.item
   no_members object = sym (ap (map member_held) objects)
   no_members action = sym (ap (map member_held) actions)
 
-  pub empty_stands : (rules : ArrayVec Rule) → rules.items ≡ [] → (w : List ℕ)
+  pub empty_stands : (rules : ShortList Rule) → rules.items ≡ [] → (w : List ℕ)
       → Stands w (record { group = Subjects; names = names; marks = replicate 1024 0; rules = rules; sorts = replicate 4 rust.None; grants = 0 }) start
   unfolding start granted
   empty_stands rules none w = record {

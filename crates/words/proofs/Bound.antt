@@ -8,7 +8,7 @@ use Rattle.std.specs.List.{position_or_len}
 use Rattle.std.specs.List as searches
 use Rattle.std.proofs.lemmas.List.{length-map, length-reverse}
 use Rattle.std.proofs.lemmas.Iterator.Adapters.{position_from-zero}
-use Rattle.arrayvec.specs.ArrayVec.{array_vec_len}
+use Rattle.short_list.specs.ShortList.{how_many}
 use Rattle.algebra.specs.Meant.{found_of}
 use Rattle.grammar.specs.Names.{Kind, table}
 use Rattle.grammar.specs.Lookup.{same, position_from, position, place}
@@ -64,7 +64,7 @@ pub bound_lt : (n : List ℕ) (xs : List (List ℕ)) (i : ℕ) → some i ≡ po
 bound_lt n xs i e = position_lt (same n) xs i (sym e)
 
 module _ (xs : List (List ℕ)) (number : Kind → List ℕ → Option ℕ) (n : List ℕ) (i : ℕ) (p : Nodes) where
-  pub settled_table : (eqb (array_vec_len p.nodes) most_nodes && is_some p.missing) ≡ true → stored p (Table 0) ≡ emit_table number xs n i p
+  pub settled_table : (eqb (how_many p.nodes) most_nodes && is_some p.missing) ≡ true → stored p (Table 0) ≡ emit_table number xs n i p
   unfolding emit_table operators_after
   settled_table s = settled_stored (bound_as number xs n) i p (Table 0) (Table (table_of number xs n)) (λ j. refl) s
 

@@ -5,7 +5,7 @@ use Rattle.std.proofs.Math.Option.{Option, none, some}
 use Rattle.std.proofs.lemmas.Bool.{false≢true}
 use borrow.Author.Tests.{lt-ltb, le-ltb, eqb-true}
 use Rattle.algebra.proofs.Bool.{and_left, and_right}
-use Rattle.arrayvec.specs.ArrayVec.{ArrayVec, array_vec_len}
+use Rattle.short_list.specs.ShortList.{ShortList, how_many, pushed}
 use Rattle.grammar.specs.Names.{Kind}
 use Rattle.grammar.specs.Lookup.{place}
 use Rattle.words.specs.Cells.{most_nodes, operators_after, stored, first_place, noted, asked_as, node_with, emit_name}
@@ -15,22 +15,21 @@ use Rattle.words.specs.declared.Suffix.TheVariants.{Comparing, Marking, Closing}
 use Rattle.words.specs.declared.Nodes.{Nodes}
 
 module _ (p : Nodes) (n : Node) (o : ℕ) where
-  pub put_stored : (v : ArrayVec Node) → array_vec_len p.nodes < 193 → v.items ≡ p.nodes.items ++ n ∷ [] → o ≡ operators_after p.operators n
+  pub put_stored : (v : ShortList Node) → how_many p.nodes < 193 → v ≡ pushed p.nodes n → o ≡ operators_after p.operators n
       → ◌≡◌ {A = Nodes} (record { nodes = v; operators = o; missing = p.missing }) (stored p n)
   unfolding stored
   put_stored v l i z =
-      let w : v ≡ record { items = p.nodes.items ++ n ∷ [] } = ap (λ (xs : List Node). record { items = xs }) i in
-      rw (z, lt-ltb (array_vec_len p.nodes) 193 l, w)
+      rw (z, lt-ltb (how_many p.nodes) 193 l, i)
 
-  pub full_stored : 193 ≤ array_vec_len p.nodes → o ≡ operators_after p.operators n
+  pub full_stored : 193 ≤ how_many p.nodes → o ≡ operators_after p.operators n
       → ◌≡◌ {A = Nodes} (record { nodes = p.nodes; operators = o; missing = p.missing }) (stored p n)
   unfolding stored
-  full_stored l z = rw (z, le-ltb (array_vec_len p.nodes) 193 l)
+  full_stored l z = rw (z, le-ltb (how_many p.nodes) 193 l)
 
 -- where there is no room, only the operators are counted
-same_full : (p : Nodes) (n m : Node) → ((i : ℕ) → operators_after i n ≡ operators_after i m) → array_vec_len p.nodes ≡ 193 → stored p n ≡ stored p m
+same_full : (p : Nodes) (n m : Node) → ((i : ℕ) → operators_after i n ≡ operators_after i m) → how_many p.nodes ≡ 193 → stored p n ≡ stored p m
 unfolding stored
-same_full p n m e l = rw (le-ltb (array_vec_len p.nodes) 193 (omega arith), e p.operators)
+same_full p n m e l = rw (le-ltb (how_many p.nodes) 193 (omega arith), e p.operators)
 
 -- where a name is missing already, whatever number the next one has
 settled_is : (o : Option ℕ) (i : ℕ) (p : Nodes) → is_some p.missing ≡ true → noted o i p ≡ p
@@ -45,11 +44,11 @@ settled_is none i p e = go p.missing refl e
 
 -- once all is settled, a name changes nothing
 pub settled_stored : (o : Option ℕ) (i : ℕ) (p : Nodes) (n m : Node) → ((j : ℕ) → operators_after j n ≡ operators_after j m)
-    → (eqb (array_vec_len p.nodes) most_nodes && is_some p.missing) ≡ true → stored p n ≡ stored (noted o i p) m
+    → (eqb (how_many p.nodes) most_nodes && is_some p.missing) ≡ true → stored p n ≡ stored (noted o i p) m
 settled_stored o i p n m e s =
-    let full = eqb-true (array_vec_len p.nodes) 193 (and_left (eqb (array_vec_len p.nodes) 193) (is_some p.missing) s) in
+    let full = eqb-true (how_many p.nodes) 193 (and_left (eqb (how_many p.nodes) 193) (is_some p.missing) s) in
     same_full p n m e full
-    ∙ ap (λ (q : Nodes). stored q m) (sym (settled_is o i p (and_right (eqb (array_vec_len p.nodes) 193) (is_some p.missing) s)))
+    ∙ ap (λ (q : Nodes). stored q m) (sym (settled_is o i p (and_right (eqb (how_many p.nodes) 193) (is_some p.missing) s)))
 
 -- a node after a name that stands at i: v is what the name was found as, q is p with the name noted
 pub noted_stored : (o : Option ℕ) (i : ℕ) (p : Nodes) {v : Option ℕ} {n m : Node} {q : Nodes} → v ≡ o → n ≡ m → q ≡ noted v i p
@@ -63,7 +62,7 @@ suffix_operators (Marking s) n m i = refl
 suffix_operators Closing n m i = refl
 
 module _ (number : Kind → List ℕ → Option ℕ) (x : Suffix) (n : List ℕ) (i : ℕ) (p : Nodes) where
-  pub settled_named : (eqb (array_vec_len p.nodes) most_nodes && is_some p.missing) ≡ true → stored p (node_with x 0) ≡ emit_name number x n i p
+  pub settled_named : (eqb (how_many p.nodes) most_nodes && is_some p.missing) ≡ true → stored p (node_with x 0) ≡ emit_name number x n i p
   unfolding emit_name
   settled_named s = settled_stored (number (asked_as x) n) i p _ _ (suffix_operators x 0 _) s
 

@@ -1,0 +1,2 @@
+-- Laws of short lists.
+pub mod Places
