@@ -162,3 +162,25 @@ pub fn read_policy<'a>(file: &'a [u8], w: &mut [u8]) -> Result<Reading<'a>, Refu
     reading.read(file, w)?;
     Ok(reading)
 }
+
+#[cfg(test)]
+mod tests {
+    use super::*;
+
+    // Two of a value.
+    fn two<T: Copy>(x: &T) -> (T, T) {
+        (*x, *x)
+    }
+
+    // A reading is copied with all that it has, and what is done to a copy is done to that alone. Nothing in the engine copies one, so this alone shows that each
+    // type in it is `Copy`.
+    #[test]
+    fn a_reading_is_copied(rt: HostRuntime) {
+        let reading = Reading::new();
+        let (mut one, other) = two(&reading);
+        one.goal.limit = 7;
+        assert_eq!(rt; one.goal.limit, 7);
+        assert_eq!(rt; other.goal.limit, 0);
+        assert_eq!(rt; reading.goal.limit, 0);
+    }
+}
