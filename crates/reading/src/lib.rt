@@ -172,8 +172,7 @@ mod tests {
         (*x, *x)
     }
 
-    // A reading is copied with all that it has, and what is done to a copy is done to that alone. Nothing in the engine copies one, so nothing else shows that
-    // each type in it is `Copy`.
+    // A reading is `Copy`, and what is done to a copy is done to that alone. Nothing in the engine copies a whole one.
     #[test]
     fn a_reading_is_copied(rt: HostRuntime) {
         let reading = Reading::new();
