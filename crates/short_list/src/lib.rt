@@ -1,4 +1,4 @@
-// A list of a fixed room, whose items lie in the value itself, so that it is `Copy` where they are.
+// A list of a few items, which lie in the value itself, so that it is copied as they are.
 #![tactic(auto)]
 
 ghost use Rattle.std.specs.Prelude.{⊤, ◌≡◌, ◌+◌, ◌<◌, ◌≤◌, ◌==◌, [], ◌∷◌, ◌++◌, length, set};
@@ -68,7 +68,7 @@ impl<T: Copy, const N: usize> ShortList<T, N> {
         ensures value { result ≡ how_many self.now }
         ensures fits { result ≤ N }
     {
-        self.as_slice().len()
+        self.many
     }
 
     // Whether there is no room left.
